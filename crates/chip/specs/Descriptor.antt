@@ -1,0 +1,45 @@
+-- A descriptor, what it matches and where it maps a page: handbook 3.1 and 4.5.3.
+use Prim.Native.Nat.{ℕ, _<_, _^_}
+use mathlib.Core.Bool.{Bool, true, _&&_}
+use mathlib.Core.Path.{_≡_}
+use Rattle.masks.specs.Fields.{bit, agree, clash, gate}
+use Rattle.chip.specs.Status.{E, raise}
+use Rattle.chip.specs.declared.descriptor.Descriptor.{Descriptor}
+
+-- 3.1.6: E, when set, enables the segment to participate in the matching process
+abbrev pub enabled : Descriptor → Bool
+enabled d = bit (d .ssr) E
+
+-- 4.5.3.1: a range match: in each bit position in the LAM which is set, the page matches the LBA
+abbrev pub range-match : Descriptor → (page : ℕ) → Bool
+range-match d page = agree 16 (d .lam) page (d .lba)
+
+-- 4.5.3.1: a space match: in each bit position in the ASM which is set, the number matches the ASN
+abbrev pub space-match : Descriptor → (number : ℕ) → Bool
+space-match d number = agree 8 (d .asm) number (d .asn)
+
+-- 4.5.3.2: an address match is a range match and a space match
+unfoldable pub matches : Descriptor → (page number : ℕ) → Bool
+matches d page number = enabled d && range-match d page && space-match d number
+
+-- 4.5.3.2: the page is passed through in those bit positions in the LAM which are clear; in the
+-- other bit positions the PBA is gated out
+abbrev pub physical-page : Descriptor → (page : ℕ) → ℕ
+physical-page d page = gate 16 (d .lam) page (d .pba)
+
+unfoldable pub with-ssr : Descriptor → ℕ → Descriptor
+with-ssr d ssr = record { lba = d .lba; lam = d .lam; pba = d .pba; asn = d .asn; ssr = ssr; asm = d .asm }
+
+-- E taken as set
+unfoldable pub enable : Descriptor → Descriptor
+enable d = with-ssr d (raise E (d .ssr))
+
+-- 4.6.3.2: a collision: both are programmed to translate the same logical address
+unfoldable pub Clash : Descriptor → Descriptor → Type 0
+Clash d e =
+    (page : ℕ) × (number : ℕ) × (page < 2 ^ 16) × (number < 2 ^ 8)
+    × (matches (enable d) page number ≡ true) × (matches (enable e) page number ≡ true)
+
+-- the same, computed: the ranges clash and the spaces clash
+unfoldable pub clashes : Descriptor → Descriptor → Bool
+clashes d e = clash 16 (d .lam) (d .lba) (e .lam) (e .lba) && clash 8 (d .asm) (d .asn) (e .asm) (e .asn)
