@@ -1,8 +1,9 @@
 // A descriptor: a memory segment and how it is mapped to physical addresses (handbook 3.1).
 ghost use mathlib.Core.Path.{_≡_};
 ghost use Rattle.chip.specs.Descriptor.{enabled, range-match, space-match, matches, physical-page, clashes};
-
 use crate::status;
+use masks::byte;
+use masks::word;
 
 // The nine bytes, in accumulator order (Table 3-1).
 pub struct Descriptor {
@@ -24,13 +25,13 @@ impl Descriptor {
     pub fn range_match(self, page: u16) -> bool
         ensures { λ r. ⌜ r ≡ range-match self page ⌝ }
     {
-        masks::agree16(self.lam, page, self.lba)
+        word::agree(self.lam, page, self.lba)
     }
 
     pub fn space_match(self, number: u8) -> bool
         ensures { λ r. ⌜ r ≡ space-match self number ⌝ }
     {
-        masks::agree8(self.asm, number, self.asn)
+        byte::agree(self.asm, number, self.asn)
     }
 
     pub fn matches(self, page: u16, number: u8) -> bool
@@ -42,13 +43,13 @@ impl Descriptor {
     pub fn physical_page(self, page: u16) -> u16
         ensures { λ r. ⌜ r ≡ physical-page self page ⌝ }
     {
-        masks::gate16(self.lam, page, self.pba)
+        word::gate(self.lam, page, self.pba)
     }
 
     pub fn clashes(self, other: Descriptor) -> bool
         ensures { λ r. ⌜ r ≡ clashes self other ⌝ }
     {
-        masks::clash16(self.lam, self.lba, other.lam, other.lba)
-            && masks::clash8(self.asm, self.asn, other.asm, other.asn)
+        word::clash(self.lam, self.lba, other.lam, other.lba)
+            && byte::clash(self.asm, self.asn, other.asm, other.asn)
     }
 }

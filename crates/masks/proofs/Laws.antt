@@ -1,8 +1,9 @@
 -- The laws of fields under a mask, each over the width w.
 --     agree-at       agreement, said of each bit position
 --     agree-test     the test by xor and and decides agreement
---     clash-common   a clash is agreement under what the masks have in common
+--     clash-test     the same test under what two masks have in common decides the clash
 --     clash-value    where two fields clash, a value that agrees with both
+--     clash-of       where a value agrees with both, the two clash
 --     clash-exists   two fields clash exactly when some value agrees with both
 --     gate-masked    the value made by masks is the one made bit by bit
 --     gate-fits      and it fits the width
@@ -27,9 +28,10 @@ every-at : (w : ℕ) (p : ℕ → Bool) → (every w p ≡ true) ↔ ((i : ℕ) 
 unfolding every
 every-at zero p = (λ e i h. absurd (not-suc-le-zero h), λ h. refl)
 every-at (suc w) p =
-    let both = and-eq-true-iff (p w) (every w p) in
-    ( λ e i h. ⊎-elim (λ q. rw q (both .0 e .0)) (λ l. every-at w p .0 (both .0 e .1) i l) (eq-or-lt-of-le (le-of-suc-le-suc h))
-    , λ h. both .1 (h w (omega arith), every-at w p .1 (λ i l. h i (omega arith))) )
+    let both = and-eq-true-iff (p w) (every w p) in (
+      λ e i h. ⊎-elim (λ q. rw q (both .0 e .0)) (λ l. every-at w p .0 (both .0 e .1) i l) (eq-or-lt-of-le (le-of-suc-le-suc h)),
+      λ h. both .1 (h w (omega arith), every-at w p .1 (λ i l. h i (omega arith))),
+    )
 
 -- ---- agreement
 
@@ -43,9 +45,10 @@ same-bit false x y = (λ e h. absurd (false≢true h), λ h. refl)
 alike-at : (w : ℕ) (c : ℕ → Bool) (a b : ℕ) → (alike w c a b ≡ true) ↔ ((i : ℕ) → i < w → c i ≡ true → bit a i ≡ bit b i)
 unfolding alike
 alike-at w c a b =
-    let all = every-at w (λ i. cond (c i) (Bool·beq (bit a i) (bit b i)) true) in
-    ( λ e i h. same-bit (c i) (bit a i) (bit b i) .0 (all .0 e i h)
-    , λ f. all .1 (λ i h. same-bit (c i) (bit a i) (bit b i) .1 (f i h)) )
+    let all = every-at w (λ i. cond (c i) (Bool·beq (bit a i) (bit b i)) true) in (
+      λ e i h. same-bit (c i) (bit a i) (bit b i) .0 (all .0 e i h),
+      λ f. all .1 (λ i h. same-bit (c i) (bit a i) (bit b i) .1 (f i h)),
+    )
 
 pub agree-at : (w m a b : ℕ) → (agree w m a b ≡ true) ↔ ((i : ℕ) → i < w → bit m i ≡ true → bit a i ≡ bit b i)
 unfolding agree
@@ -79,9 +82,11 @@ pub gate-fits : (w m a b : ℕ) → gate w m a b < 2 ^ w
 unfolding gate
 gate-fits w m a b = field-fits w (λ i. cond (bit m i) (bit b i) (bit a i))
 
-pub clash-common : (w m a n b : ℕ) → agree w (bitAnd m n) a b ≡ clash w m a n b
+pub clash-test : (w m a n b : ℕ) → n < 2 ^ w → eqb (bitAnd (bitXor a b) (bitAnd m n)) 0 ≡ clash w m a n b
 unfolding agree clash
-clash-common w m a n b = ap (λ (c : ℕ → Bool). alike w c a b) (fun-ext (bit-and m n))
+clash-test w m a n b h =
+    agree-test w (bitAnd m n) a b (lt-of-le-of-lt (and-le-r m n) h)
+    ∙ ap (λ (c : ℕ → Bool). alike w c a b) (fun-ext (bit-and m n))
 
 either : (c x y : Bool) → (c ≡ true → x ≡ y) → cond c x y ≡ y
 either true x y h = h refl
@@ -91,9 +96,10 @@ module _ (w m a n b : ℕ) where
   pub clash-at : (clash w m a n b ≡ true) ↔ ((i : ℕ) → i < w → bit m i ≡ true → bit n i ≡ true → bit a i ≡ bit b i)
   unfolding clash
   clash-at =
-      let all = alike-at w (λ i. bit m i && bit n i) a b in
-      ( λ e i h p q. all .0 e i h (rw (p, q))
-      , λ f. all .1 (λ i h e. let both = and-eq-true-iff (bit m i) (bit n i) .0 e in f i h (both .0) (both .1)) )
+      let all = alike-at w (λ i. bit m i && bit n i) a b in (
+        λ e i h p q. all .0 e i h (rw (p, q)),
+        λ f. all .1 (λ i h e. let both = and-eq-true-iff (bit m i) (bit n i) .0 e in f i h (both .0) (both .1)),
+      )
 
   -- the value has a's bits where m has a one, and b's elsewhere
   pub clash-value : clash w m a n b ≡ true → (agree w m (gate w m b a) a ≡ true) × (agree w n (gate w m b a) b ≡ true)
@@ -102,15 +108,21 @@ module _ (w m a n b : ℕ) where
     where
       made : (i : ℕ) → i < w → bit (gate w m b a) i ≡ cond (bit m i) (bit a i) (bit b i)
       made i h = bit-field w (λ k. cond (bit m k) (bit a k) (bit b k)) i h
+
       in-a : (i : ℕ) → i < w → bit m i ≡ true → bit (gate w m b a) i ≡ bit a i
       in-a i h p = made i h ∙ rw p
+
       in-b : (i : ℕ) → i < w → bit n i ≡ true → bit (gate w m b a) i ≡ bit b i
       in-b i h q = made i h ∙ either (bit m i) (bit a i) (bit b i) (λ p. clash-at .0 e i h p q)
 
+  pub clash-of : (x : ℕ) → agree w m x a ≡ true → agree w n x b ≡ true → clash w m a n b ≡ true
+  clash-of x p q = clash-at .1 (λ i h s t. sym (agree-at w m x a .0 p i h s) ∙ agree-at w n x b .0 q i h t)
+
   pub clash-exists : (clash w m a n b ≡ true) ↔ ((x : ℕ) × (x < 2 ^ w) × (agree w m x a ≡ true) × (agree w n x b ≡ true))
-  clash-exists =
-      ( λ e. (gate w m b a, gate-fits w m b a, clash-value e .0, clash-value e .1)
-      , λ x. clash-at .1 (λ i h p q. sym (agree-at w m _ a .0 (x .2) i h p) ∙ agree-at w n _ b .0 (x .3) i h q) )
+  clash-exists = (
+    λ e. (gate w m b a, gate-fits w m b a, clash-value e .0, clash-value e .1),
+    λ x. clash-of (x .0) (x .2) (x .3),
+  )
 
 -- ---- the gated value
 
@@ -155,8 +167,10 @@ bit-test x i = ap (λ (n : ℕ). not (eqb n 0)) alone ∙ go (x / 2 ^ i % 2) (mo
   where
     power : 2 ^ (1 + i) - 2 ^ i ≡ 2 ^ i
     power = rw (one-add, pow-suc) (omega arith)
+
     alone : bitAnd x (2 ^ i) ≡ (x / 2 ^ i % 2) * 2 ^ i
     alone = rw power at (and-high x 1 i)
+
     go : (d : ℕ) → d < 2 → not (eqb (d * 2 ^ i) 0) ≡ eqb d 1
     go zero h = rw zero-mul
     go (suc zero) h = ap not (ne-eqb (1 * 2 ^ i) 0 (omega (arith, pow-pos i)))

@@ -22,13 +22,13 @@ returns : tie.Need-returns
 unfolding bit field
 returns c =
     let ssr = c .before .args .ssr in
-    keeps ssr 0x97 false (sym (bit-test ssr E) ∙ ap not (eq-eqb _ _ (c .if1 .taken))) (lit< tt) refl
+    keeps ssr _ false (sym (bit-test ssr E) ∙ ap not (eq-eqb _ _ (c .if1 .taken))) (lit< tt) refl
 
 returns-2 : tie.Need-returns-2
 unfolding bit field
 returns-2 c =
     let ssr = c .before .args .ssr in
-    keeps ssr 0x9F true (sym (bit-test ssr E) ∙ ap not (ne-eqb _ _ (c .if1 .left))) (lit< tt) refl
+    keeps ssr _ true (sym (bit-test ssr E) ∙ ap not (ne-eqb _ _ (c .if1 .left))) (lit< tt) refl
 
 pub clean-spec : {M : Type 1} → statement M
 clean-spec = tie.close (tie.spec returns returns-2)

@@ -4,19 +4,19 @@ use Rattle.chip.specs.Descriptor.{clashes}
 use Rattle.chip.proofs.descriptor.Descriptor.clashes.Statement.{statement}
 use Rattle.chip.proofs.descriptor.Descriptor.clashes.Tie as tie
 
-clash16-requires : tie.Need-clash16-requires
-clash16-requires c κs = search needs
+clash-requires : tie.Need-clash-requires
+clash-requires c κs = search needs
 
-clash8-requires : tie.Need-clash8-requires
-clash8-requires c κs = search needs
+clash-requires-2 : tie.Need-clash-requires-2
+clash-requires-2 c κs = search needs
 
 returns : tie.Need-returns
 unfolding clashes
-returns c = rw (← c .before .before .clash16 .ensures, c .before .if1 .taken) (c .clash8 .ensures)
+returns c = rw (← c .before .before .clash .ensures, c .before .if1 .taken) (c .clash2 .ensures)
 
 returns-2 : tie.Need-returns-2
 unfolding clashes
-returns-2 c = rw (← c .before .clash16 .ensures, c .if1 .left)
+returns-2 c = rw (← c .before .clash .ensures, c .if1 .left)
 
 pub clashes-spec : {M : Type 1} → statement M
-clashes-spec = tie.close (tie.spec clash16-requires clash8-requires returns returns-2)
+clashes-spec = tie.close (tie.spec clash-requires clash-requires-2 returns returns-2)
