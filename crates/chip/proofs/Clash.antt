@@ -1,15 +1,15 @@
 -- The law of the clash: the computed test decides whether some page and some number exist that both descriptors match, E taken as set.
 -- Assumes nothing.
-use mathlib.Core.Path.{_≡_, _∙_, sym}
+use mathlib.Core.Path.{_≡_}
 use mathlib.Core.Logic.{_↔_}
-use mathlib.Core.Bool.{Bool, true, _&&_, and-eq-true-iff}
+use mathlib.Core.Bool.{true, and-eq-true-iff}
 use Prim.Native.Nat.{ℕ}
 use lib.Dec.{lit<}
 use Rattle.masks.specs.Fields.{clash}
 use Rattle.masks.proofs.Bits.{bit-field}
-use Rattle.masks.proofs.Laws.{clash-exists, clash-of}
-use Rattle.chip.specs.Status.{E, raise}
-use Rattle.chip.specs.Descriptor.{enabled, range-match, space-match, matches, with-ssr, enable, Clash, clashes}
+use Rattle.masks.proofs.Laws.{clash-exists}
+use Rattle.chip.specs.Status.{raise}
+use Rattle.chip.specs.Descriptor.{range-match, space-match, matches, with-ssr, enable, Clash, clashes}
 use Rattle.chip.specs.declared.descriptor.Descriptor.{Descriptor}
 
 -- with E set, a match is a range match and a space match

@@ -1,7 +1,7 @@
 -- Worked cases: handbook Figure 6-1 and its neighbours, as document 01 numbers them.
 use Prim.Native.Nat.{ℕ}
 use mathlib.Core.Bool.{Bool, true, not, _&&_}
-use mathlib.Core.List.{List, [], _∷_, _++_, map}
+use mathlib.Core.List.{List, [], _∷_, map}
 use Rattle.chip.specs.Descriptor.{matches, clashes}
 use Rattle.chip.specs.declared.descriptor.Descriptor.{Descriptor}
 

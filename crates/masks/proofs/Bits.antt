@@ -1,15 +1,20 @@
--- What a bit is after each operation, and a number as the field of its bits.
+-- What a bit is after each operation, a number as the field of its bits, and a rule at every bit position.
+--     bit-and, bit-or, bit-xor, bit-not     the bits of a result, from the operands' bits
+--     field-fits, bit-field, field-bits     a field fits its width, has the bits that it was made of, and a number is the field of its bits
+--     every-at                              a rule holds of a field exactly when it holds at each position
+--     and-field, bit-test                   a number under a mask; the test by and with a power of two tells a bit
 -- Assumes nothing.
-use mathlib.Core.Path.{_≡_, refl, sym, ap, ap₂, _∙_, subst}
-use mathlib.Core.Logic.{⊎-elim}
+use mathlib.Core.Path.{_≡_, refl, sym, ap, _∙_}
+use mathlib.Core.Logic.{_↔_, ⊎-elim}
 use mathlib.Core.Bool.{Bool, true, false, not, _&&_, _||_, xor, cond, and-eq-true-iff}
-use Prim.Native.Nat.{ℕ, zero, suc, _+_, _-_, _*_, _/_, _%_, _^_, _<_, _≤_}
-use native.Mathlib.Nat.{not-suc-le-zero, le-of-suc-le-suc, eq-or-lt-of-le, mod-one, mod-lt, pow-suc, mod-eq-of-lt}
+use Prim.Native.Nat.{ℕ, zero, suc, _+_, _-_, _*_, _/_, _%_, _^_, _<_}
+use native.Mathlib.Nat.{not-suc-le-zero, le-of-suc-le-suc, eq-or-lt-of-le, lt-of-le-of-lt, zero-mul, zero-add, mod-one, mod-lt, pow-suc, mod-eq-of-lt}
 use native.Mathlib.Numerals.{one-add}
 use native.Mathlib.Omega.{arith}
 use lib.Dec.{eqb}
 use lib.Pow.{pow-pos, high, low, field as pow-field, mod-mod-pow, mod-pow-add}
-use lib.Bits.{bitAnd, bitOr, bitXor, and-shr, and-mod, or-shr, or-mod, xor-shr, xor-mod}
+use lib.Bits.{bitAnd, bitOr, bitXor, and-shr, and-mod, or-shr, or-mod, xor-shr, xor-mod, and-le-r, and-high}
+use borrow.Author.Tests.{ne-eqb}
 use Rattle.masks.specs.Fields.{bit, every, field}
 
 -- ---- the bits of a result: an operation that works on each digit apart works on each bit apart
@@ -106,3 +111,58 @@ field-low (suc w) x =
 
 pub field-bits : (w x : ℕ) → x < 2 ^ w → field w (bit x) ≡ x
 field-bits w x h = field-low w x ∙ mod-eq-of-lt h
+
+-- the complement of a mask has the other bits
+pub bit-not : (w m i : ℕ) → m < 2 ^ w → i < w → bit (2 ^ w - 1 - m) i ≡ not (bit m i)
+bit-not w m i hm h =
+    ap (λ (n : ℕ). bit (2 ^ w - 1 - n) i) (sym (field-bits w m hm))
+    ∙ ap (λ (n : ℕ). bit n i) (field-not w (bit m))
+    ∙ bit-field w (λ k. not (bit m k)) i h
+
+-- a field of no ones is zero
+pub field-zero : (w : ℕ) (p : ℕ → Bool) → eqb (field w p) 0 ≡ every w (λ i. not (p i))
+unfolding field every
+field-zero zero p = refl
+field-zero (suc w) p = go (p w) (field-zero w p)
+  where
+    go : (b : Bool) → eqb (field w p) 0 ≡ every w (λ i. not (p i)) → eqb (cond b 1 0 * 2 ^ w + field w p) 0 ≡ not b && every w (λ i. not (p i))
+    go true e = ne-eqb (1 * 2 ^ w + field w p) 0 (omega (arith, pow-pos w))
+    go false e = rw (zero-mul, zero-add) e
+
+-- ---- a rule that holds at every position
+pub every-at : (w : ℕ) (p : ℕ → Bool) → (every w p ≡ true) ↔ ((i : ℕ) → i < w → p i ≡ true)
+unfolding every
+every-at zero p = (λ e i h. absurd (not-suc-le-zero h), λ h. refl)
+every-at (suc w) p =
+    let both = and-eq-true-iff (p w) (every w p) in (
+      λ e i h. ⊎-elim (λ q. rw q (both .0 e .0)) (λ l. every-at w p .0 (both .0 e .1) i l) (eq-or-lt-of-le (le-of-suc-le-suc h)),
+      λ h. both .1 (h w (omega arith), every-at w p .1 (λ i l. h i (omega arith))),
+    )
+
+-- ---- one number under a mask
+
+kept : (c x : Bool) → x && c ≡ cond c x false
+kept true true = refl
+kept true false = refl
+kept false true = refl
+kept false false = refl
+
+pub and-field : (w x m : ℕ) → m < 2 ^ w → bitAnd x m ≡ field w (λ i. cond (bit m i) (bit x i) false)
+and-field w x m h =
+    sym (field-bits w _ (lt-of-le-of-lt (and-le-r x m) h))
+    ∙ field-cong w _ _ (λ i k. bit-and x m i ∙ kept (bit m i) (bit x i))
+
+pub bit-test : (x i : ℕ) → not (eqb (bitAnd x (2 ^ i)) 0) ≡ bit x i
+unfolding bit
+bit-test x i = ap (λ (n : ℕ). not (eqb n 0)) alone ∙ go (x / 2 ^ i % 2) (mod-lt _ (pow-pos 1))
+  where
+    power : 2 ^ (1 + i) - 2 ^ i ≡ 2 ^ i
+    power = rw (one-add, pow-suc) (omega arith)
+
+    alone : bitAnd x (2 ^ i) ≡ (x / 2 ^ i % 2) * 2 ^ i
+    alone = rw power at (and-high x 1 i)
+
+    go : (d : ℕ) → d < 2 → not (eqb (d * 2 ^ i) 0) ≡ eqb d 1
+    go zero h = rw zero-mul
+    go (suc zero) h = ap not (ne-eqb (1 * 2 ^ i) 0 (omega (arith, pow-pos i)))
+    go (suc (suc d)) h = absurd (omega arith)

@@ -1,37 +1,24 @@
--- The laws of fields under a mask, each over the width w.
+-- The laws of fields under a mask, each stated and proved over the width w.
 --     agree-at       agreement, said of each bit position
 --     agree-test     the test by xor and and decides agreement
---     clash-test     the same test under what two masks have in common decides the clash
---     clash-value    where two fields clash, a value that agrees with both
---     clash-of       where a value agrees with both, the two clash
---     clash-exists   two fields clash exactly when some value agrees with both
---     gate-masked    the value made by masks is the one made bit by bit
---     gate-fits      and it fits the width
---     and-field      a number under a mask is the field of the bits that the mask keeps
---     bit-test       the test by and with a power of two tells a bit
+--     gate-fits      the value made from two fields by a mask fits the width
+--     gate-masked    that value, computed by masks, is the one made bit by bit
+--     clash-at       a clash, said of each bit position
+--     clash-test     the test by xor and and, under what two masks have in common, decides the clash
+--     clash-value    where two fields clash, the value in hand that agrees with both
+--     clash-of       where some value agrees with both, the two clash
+--     clash-exists   so two fields clash exactly when some value of the width agrees with both
 -- Assumes nothing.
 use mathlib.Core.Path.{_≡_, refl, sym, ap, fun-ext, _∙_}
-use mathlib.Core.Logic.{_↔_, ⊎-elim}
+use mathlib.Core.Logic.{_↔_}
 use mathlib.Core.Bool.{Bool, true, false, not, _&&_, _||_, xor, cond, Bool·beq, and-eq-true-iff, true≢false, false≢true}
-use Prim.Native.Nat.{ℕ, zero, suc, _+_, _-_, _*_, _/_, _%_, _^_, _<_}
-use native.Mathlib.Nat.{not-suc-le-zero, le-of-suc-le-suc, eq-or-lt-of-le, lt-of-le-of-lt, zero-mul, zero-add, mod-lt, pow-suc}
-use native.Mathlib.Numerals.{one-add}
-use native.Mathlib.Omega.{arith}
+use Prim.Native.Nat.{ℕ, _-_, _^_, _<_}
+use native.Mathlib.Nat.{lt-of-le-of-lt}
 use lib.Dec.{eqb}
-use lib.Pow.{pow-pos, ones-sub-lt}
-use lib.Bits.{bitAnd, bitOr, bitXor, and-le-r, and-high, or-lt}
-use borrow.Author.Tests.{ne-eqb}
-use Rattle.masks.specs.Fields.{bit, every, field, alike, agree, clash, gate}
-use Rattle.masks.proofs.Bits.{bit-and, bit-or, bit-xor, bit-field, field-bits, field-cong, field-fits, field-not}
-
-every-at : (w : ℕ) (p : ℕ → Bool) → (every w p ≡ true) ↔ ((i : ℕ) → i < w → p i ≡ true)
-unfolding every
-every-at zero p = (λ e i h. absurd (not-suc-le-zero h), λ h. refl)
-every-at (suc w) p =
-    let both = and-eq-true-iff (p w) (every w p) in (
-      λ e i h. ⊎-elim (λ q. rw q (both .0 e .0)) (λ l. every-at w p .0 (both .0 e .1) i l) (eq-or-lt-of-le (le-of-suc-le-suc h)),
-      λ h. both .1 (h w (omega arith), every-at w p .1 (λ i l. h i (omega arith))),
-    )
+use lib.Pow.{ones-sub-lt}
+use lib.Bits.{bitAnd, bitOr, bitXor, and-le-r, or-lt}
+use Rattle.masks.specs.Fields.{bit, every, alike, agree, clash, gate}
+use Rattle.masks.proofs.Bits.{bit-and, bit-or, bit-xor, bit-not, bit-field, field-bits, field-cong, field-fits, field-zero, every-at}
 
 -- ---- agreement
 
@@ -54,15 +41,6 @@ pub agree-at : (w m a b : ℕ) → (agree w m a b ≡ true) ↔ ((i : ℕ) → i
 unfolding agree
 agree-at w m a b = alike-at w (bit m) a b
 
-field-zero : (w : ℕ) (p : ℕ → Bool) → eqb (field w p) 0 ≡ every w (λ i. not (p i))
-unfolding field every
-field-zero zero p = refl
-field-zero (suc w) p = go (p w) (field-zero w p)
-  where
-    go : (b : Bool) → eqb (field w p) 0 ≡ every w (λ i. not (p i)) → eqb (cond b 1 0 * 2 ^ w + field w p) 0 ≡ not b && every w (λ i. not (p i))
-    go true e = ne-eqb (1 * 2 ^ w + field w p) 0 (omega (arith, pow-pos w))
-    go false e = rw (zero-mul, zero-add) e
-
 unmasked : (c e : Bool) → not (not e && c) ≡ cond c e true
 unmasked true true = refl
 unmasked true false = refl
@@ -76,11 +54,29 @@ agree-test w m a b h =
     ∙ field-zero w (bit (bitAnd (bitXor a b) m))
     ∙ ap (every w) (fun-ext λ i. simp (bit-and, bit-xor) (unmasked (bit m i) (Bool·beq (bit a i) (bit b i))))
 
--- ---- clash
+-- ---- the gated value
 
 pub gate-fits : (w m a b : ℕ) → gate w m a b < 2 ^ w
 unfolding gate
-gate-fits w m a b = field-fits w (λ i. cond (bit m i) (bit b i) (bit a i))
+gate-fits w m a b = field-fits w _
+
+chosen : (c x y : Bool) → (x && not c) || (y && c) ≡ cond c y x
+chosen true true true = refl
+chosen true true false = refl
+chosen true false true = refl
+chosen true false false = refl
+chosen false true true = refl
+chosen false true false = refl
+chosen false false true = refl
+chosen false false false = refl
+
+pub gate-masked : (w m a b : ℕ) → m < 2 ^ w → bitOr (bitAnd a (2 ^ w - 1 - m)) (bitAnd b m) ≡ gate w m a b
+unfolding gate
+gate-masked w m a b hm =
+    sym (field-bits w _ (or-lt w _ _ (lt-of-le-of-lt (and-le-r a _) (ones-sub-lt w m)) (lt-of-le-of-lt (and-le-r b m) hm)))
+    ∙ field-cong w _ _ (λ i h. simp (bit-or, bit-and, bit-not w m i hm h) (chosen (bit m i) (bit a i) (bit b i)))
+
+-- ---- clash
 
 pub clash-test : (w m a n b : ℕ) → n < 2 ^ w → eqb (bitAnd (bitXor a b) (bitAnd m n)) 0 ≡ clash w m a n b
 unfolding agree clash
@@ -107,7 +103,7 @@ module _ (w m a n b : ℕ) where
   clash-value e = (agree-at w m _ a .1 in-a, agree-at w n _ b .1 in-b)
     where
       made : (i : ℕ) → i < w → bit (gate w m b a) i ≡ cond (bit m i) (bit a i) (bit b i)
-      made i h = bit-field w (λ k. cond (bit m k) (bit a k) (bit b k)) i h
+      made i h = bit-field w _ i h
 
       in-a : (i : ℕ) → i < w → bit m i ≡ true → bit (gate w m b a) i ≡ bit a i
       in-a i h p = made i h ∙ rw p
@@ -123,55 +119,3 @@ module _ (w m a n b : ℕ) where
     λ e. (gate w m b a, gate-fits w m b a, clash-value e .0, clash-value e .1),
     λ x. clash-of (x .0) (x .2) (x .3),
   )
-
--- ---- the gated value
-
-chosen : (c x y : Bool) → (x && not c) || (y && c) ≡ cond c y x
-chosen true true true = refl
-chosen true true false = refl
-chosen true false true = refl
-chosen true false false = refl
-chosen false true true = refl
-chosen false true false = refl
-chosen false false true = refl
-chosen false false false = refl
-
-bit-not : (w m i : ℕ) → m < 2 ^ w → i < w → bit (2 ^ w - 1 - m) i ≡ not (bit m i)
-bit-not w m i hm h =
-    ap (λ (n : ℕ). bit (2 ^ w - 1 - n) i) (sym (field-bits w m hm))
-    ∙ ap (λ (n : ℕ). bit n i) (field-not w (bit m))
-    ∙ bit-field w (λ k. not (bit m k)) i h
-
-pub gate-masked : (w m a b : ℕ) → m < 2 ^ w → bitOr (bitAnd a (2 ^ w - 1 - m)) (bitAnd b m) ≡ gate w m a b
-unfolding gate
-gate-masked w m a b hm =
-    sym (field-bits w _ (or-lt w _ _ (lt-of-le-of-lt (and-le-r a _) (ones-sub-lt w m)) (lt-of-le-of-lt (and-le-r b m) hm)))
-    ∙ field-cong w _ _ (λ i h. simp (bit-or, bit-and, bit-not w m i hm h) (chosen (bit m i) (bit a i) (bit b i)))
-
--- ---- one number under a mask
-
-kept : (c x : Bool) → x && c ≡ cond c x false
-kept true true = refl
-kept true false = refl
-kept false true = refl
-kept false false = refl
-
-pub and-field : (w x m : ℕ) → m < 2 ^ w → bitAnd x m ≡ field w (λ i. cond (bit m i) (bit x i) false)
-and-field w x m h =
-    sym (field-bits w _ (lt-of-le-of-lt (and-le-r x m) h))
-    ∙ field-cong w _ _ (λ i k. bit-and x m i ∙ kept (bit m i) (bit x i))
-
-pub bit-test : (x i : ℕ) → not (eqb (bitAnd x (2 ^ i)) 0) ≡ bit x i
-unfolding bit
-bit-test x i = ap (λ (n : ℕ). not (eqb n 0)) alone ∙ go (x / 2 ^ i % 2) (mod-lt _ (pow-pos 1))
-  where
-    power : 2 ^ (1 + i) - 2 ^ i ≡ 2 ^ i
-    power = rw (one-add, pow-suc) (omega arith)
-
-    alone : bitAnd x (2 ^ i) ≡ (x / 2 ^ i % 2) * 2 ^ i
-    alone = rw power at (and-high x 1 i)
-
-    go : (d : ℕ) → d < 2 → not (eqb (d * 2 ^ i) 0) ≡ eqb d 1
-    go zero h = rw zero-mul
-    go (suc zero) h = ap not (ne-eqb (1 * 2 ^ i) 0 (omega (arith, pow-pos i)))
-    go (suc (suc d)) h = absurd (omega arith)

@@ -6,7 +6,7 @@ use lib.Dec.{eqb, lit<}
 use lib.Bits.{bitAnd}
 use borrow.Author.Tests.{eq-eqb, ne-eqb}
 use Rattle.masks.specs.Fields.{bit, field}
-use Rattle.masks.proofs.Laws.{and-field, bit-test}
+use Rattle.masks.proofs.Bits.{and-field, bit-test}
 use Rattle.chip.specs.Status.{E, IP, reserved, clean}
 use Rattle.chip.proofs.status.clean.Statement.{statement}
 use Rattle.chip.proofs.status.clean.Tie as tie

@@ -1,5 +1,6 @@
 -- `Descriptor::clashes` meets its contract: the `&&` takes the arm that its left side says. Assumes nothing.
 use borrow.Author.Needs.{needs}
+use Rattle.masks.proofs.Flags.{and-taken, and-left}
 use Rattle.chip.specs.Descriptor.{clashes}
 use Rattle.chip.proofs.descriptor.Descriptor.clashes.Statement.{statement}
 use Rattle.chip.proofs.descriptor.Descriptor.clashes.Tie as tie
@@ -12,11 +13,11 @@ clash-requires-2 c κs = search needs
 
 returns : tie.Need-returns
 unfolding clashes
-returns c = rw (← c .before .before .clash .ensures, c .before .if1 .taken) (c .clash2 .ensures)
+returns c = and-taken (c .before .before .clash .ensures) (c .before .if1 .taken) (c .clash2 .ensures)
 
 returns-2 : tie.Need-returns-2
 unfolding clashes
-returns-2 c = rw (← c .before .clash .ensures, c .if1 .left)
+returns-2 c = and-left _ (c .before .clash .ensures) (c .if1 .left)
 
 pub clashes-spec : {M : Type 1} → statement M
 clashes-spec = tie.close (tie.spec clash-requires clash-requires-2 returns returns-2)

@@ -1,5 +1,5 @@
 -- `Descriptor::enabled` meets its contract: the test by and tells bit E. Assumes nothing.
-use Rattle.masks.proofs.Laws.{bit-test}
+use Rattle.masks.proofs.Bits.{bit-test}
 use Rattle.chip.specs.Status.{E}
 use Rattle.chip.proofs.descriptor.Descriptor.enabled.Statement.{statement}
 use Rattle.chip.proofs.descriptor.Descriptor.enabled.Tie as tie
