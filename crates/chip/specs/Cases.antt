@@ -40,10 +40,18 @@ abbrev pub all-hold : List Case → Bool
 all-hold [] = true
 all-hold (c ∷ cs) = holds c && all-hold cs
 
--- cases 8, 9 and 10
+-- the segment of cases 8 and 9, in the space asn
+abbrev pub neighbour : (asn : ℕ) → Descriptor
+neighbour asn = segment 0x5000 0xF000 0x0000 asn 0xFF
+
+-- case 10: a segment of number 00 with one significant page bit
+abbrev pub one-bit : (lba lam : ℕ) → Descriptor
+one-bit lba lam = segment lba lam 0x0000 0x00 0xFF
+
+-- cases 8, 10 (twice) and 9
 abbrev pub cases : List Case
 cases =
-    clash-at (segment 0x5000 0xF000 0x0000 0x01 0xFF) 1B 0x5000 0x01
-    ∷ clash-at (segment 0x0001 0x0001 0x0000 0x00 0xFF) (segment 0x8000 0x8000 0x0000 0x00 0xFF) 0x8001 0x00
-    ∷ no-clash (segment 0x0000 0x0001 0x0000 0x00 0xFF) (segment 0x0001 0x0001 0x0000 0x00 0xFF)
-    ∷ map (no-clash (segment 0x5000 0xF000 0x0000 0x03 0xFF)) figure-6-1
+    clash-at (neighbour 0x01) 1B 0x5000 0x01
+    ∷ clash-at (one-bit 0x0001 0x0001) (one-bit 0x8000 0x8000) 0x8001 0x00
+    ∷ no-clash (one-bit 0x0000 0x0001) (one-bit 0x0001 0x0001)
+    ∷ map (no-clash (neighbour 0x03)) figure-6-1

@@ -18,7 +18,7 @@ range-match d page = agree 16 (d .lam) page (d .lba)
 abbrev pub space-match : Descriptor → (number : ℕ) → Bool
 space-match d number = agree 8 (d .asm) number (d .asn)
 
--- 4.5.3.2: an address match is a range match and a space match
+-- 4.5.3.2: an enabled segment has an address match if there is a range match and a space match
 unfoldable pub matches : Descriptor → (page number : ℕ) → Bool
 matches d page number = enabled d && range-match d page && space-match d number
 
@@ -27,19 +27,21 @@ matches d page number = enabled d && range-match d page && space-match d number
 abbrev pub physical-page : Descriptor → (page : ℕ) → ℕ
 physical-page d page = gate 16 (d .lam) page (d .pba)
 
+-- the same segment with another status
 unfoldable pub with-ssr : Descriptor → ℕ → Descriptor
 with-ssr d ssr = record { lba = d .lba; lam = d .lam; pba = d .pba; asn = d .asn; ssr = ssr; asm = d .asm }
 
--- E taken as set
+-- the same segment with E set
 unfoldable pub enable : Descriptor → Descriptor
 enable d = with-ssr d (raise E (d .ssr))
 
--- 4.6.3.2: a collision: both are programmed to translate the same logical address
+-- 4.6.3.2: a collision, both are programmed to translate the same logical address: some page and
+-- some number exist that both match, E taken as set
 unfoldable pub Clash : Descriptor → Descriptor → Type 0
 Clash d e =
     (page : ℕ) × (number : ℕ) × (page < 2 ^ 16) × (number < 2 ^ 8)
     × (matches (enable d) page number ≡ true) × (matches (enable e) page number ≡ true)
 
--- the same, computed: the ranges clash and the spaces clash
+-- whether there is a `Clash`, computed: the ranges clash and the spaces clash
 unfoldable pub clashes : Descriptor → Descriptor → Bool
 clashes d e = clash 16 (d .lam) (d .lba) (e .lam) (e .lba) && clash 8 (d .asm) (d .asn) (e .asm) (e .asn)
