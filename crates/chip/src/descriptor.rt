@@ -16,36 +16,42 @@ pub struct Descriptor {
 }
 
 impl Descriptor {
+    // 3.1.6: only an enabled segment takes part in matching.
     pub fn enabled(self) -> bool
         ensures { λ r. ⌜ r ≡ enabled self ⌝ }
     {
         self.ssr & status::E != 0
     }
 
+    // 4.5.3.1.
     pub fn range_match(self, page: u16) -> bool
         ensures { λ r. ⌜ r ≡ range-match self page ⌝ }
     {
         word::agree(self.lam, page, self.lba)
     }
 
+    // 4.5.3.1.
     pub fn space_match(self, number: u8) -> bool
         ensures { λ r. ⌜ r ≡ space-match self number ⌝ }
     {
         byte::agree(self.asm, number, self.asn)
     }
 
+    // 4.5.3.2, and E.
     pub fn matches(self, page: u16, number: u8) -> bool
         ensures { λ r. ⌜ r ≡ matches self page number ⌝ }
     {
         self.enabled() && self.range_match(page) && self.space_match(number)
     }
 
+    // 3.1.3, 4.5.3.2.
     pub fn physical_page(self, page: u16) -> u16
         ensures { λ r. ⌜ r ≡ physical-page self page ⌝ }
     {
         word::gate(self.lam, page, self.pba)
     }
 
+    // 4.6.3.2. E counts as set in both: a load asks before it enables.
     pub fn clashes(self, other: Descriptor) -> bool
         ensures { λ r. ⌜ r ≡ clashes self other ⌝ }
     {
