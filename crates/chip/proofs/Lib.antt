@@ -1,3 +1,6 @@
 pub mod Row
 pub mod Clash
-pub mod Cases
+pub mod Free
+pub mod Numbers
+pub mod Each
+pub mod Units

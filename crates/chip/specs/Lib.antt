@@ -1,3 +1,6 @@
 pub mod Status
 pub mod Descriptor
-pub mod Cases
+pub mod Unit
+pub mod Change
+pub mod Shared
+pub mod System

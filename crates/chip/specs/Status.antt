@@ -31,6 +31,26 @@ reserved i = eqb i 5 || eqb i 6
 unfoldable pub raise : (i ssr : ℕ) → ℕ
 raise i ssr = field 8 (λ k. eqb k i || bit ssr k)
 
+-- the status with bit i clear
+unfoldable pub lower : (i ssr : ℕ) → ℕ
+lower i ssr = field 8 (λ k. cond (eqb k i) false (bit ssr k))
+
 -- the clean form: a reserved bit is zero when read, and IP is cleared if the E bit is a "0"
 unfoldable pub clean : (ssr : ℕ) → ℕ
 clean ssr = field 8 (λ i. cond (reserved i || (eqb i IP && not (bit ssr E))) false (bit ssr i))
+
+-- 4.5.3.2: the U bit is set by a successful translation; if the I bit is set, then the IP bit is set
+unfoldable pub used : (ssr : ℕ) → ℕ
+used ssr = cond (bit ssr I) (raise IP (raise U ssr)) (raise U ssr)
+
+-- 4.5.3.2: the M bit is set if the cycle was a write
+unfoldable pub modified : (ssr : ℕ) → ℕ
+modified ssr = raise M ssr
+
+-- 4.6.3.2: disabled, its E bit is cleared; and so is IP (3.1.6)
+unfoldable pub disabled : (ssr : ℕ) → ℕ
+disabled ssr = clean (lower E ssr)
+
+-- 4.6.2.4: any bit may be written except the E bit: enable may be cleared but it may not be set
+unfoldable pub rewritten : (old value : ℕ) → ℕ
+rewritten old value = cond (bit old E) (clean value) (disabled value)

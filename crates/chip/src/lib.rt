@@ -1,2 +1,5 @@
 pub mod descriptor;
+pub mod shared;
 pub mod status;
+pub mod system;
+pub mod unit;

@@ -2,18 +2,18 @@
 --     bit-and, bit-or, bit-xor, bit-not     the bits of a result, from the operands' bits
 --     field-fits, bit-field, field-bits     a field fits its width, has the bits that it was made of, and a number is the field of its bits
 --     every-at                              a rule holds of a field exactly when it holds at each position
---     and-field, bit-test                   a number under a mask; the test by and with a power of two tells a bit
+--     and-field, or-field, bit-test         a number under a mask, and with its bits set; the test by and with a power of two tells a bit
 -- Assumes nothing.
 use mathlib.Core.Path.{_≡_, refl, sym, ap, _∙_}
 use mathlib.Core.Logic.{_↔_, ⊎-elim}
-use mathlib.Core.Bool.{Bool, true, false, not, _&&_, _||_, xor, cond, and-eq-true-iff}
+use mathlib.Core.Bool.{Bool, true, false, not, _&&_, _||_, xor, cond, and-eq-true-iff, or-comm}
 use Prim.Native.Nat.{ℕ, zero, suc, _+_, _-_, _*_, _/_, _%_, _^_, _<_}
 use native.Mathlib.Nat.{not-suc-le-zero, le-of-suc-le-suc, eq-or-lt-of-le, lt-of-le-of-lt, zero-mul, zero-add, mod-one, mod-lt, pow-suc, mod-eq-of-lt}
 use native.Mathlib.Numerals.{one-add}
 use native.Mathlib.Omega.{arith}
 use lib.Dec.{eqb}
 use lib.Pow.{pow-pos, high, low, field as pow-field, mod-mod-pow, mod-pow-add}
-use lib.Bits.{bitAnd, bitOr, bitXor, and-shr, and-mod, or-shr, or-mod, xor-shr, xor-mod, and-le-r, and-high}
+use lib.Bits.{bitAnd, bitOr, bitXor, and-shr, and-mod, or-shr, or-mod, xor-shr, xor-mod, and-le-r, and-high, or-lt}
 use borrow.Author.Tests.{ne-eqb}
 use Rattle.masks.specs.Fields.{bit, every, field}
 
@@ -151,6 +151,10 @@ pub and-field : (w x m : ℕ) → m < 2 ^ w → bitAnd x m ≡ field w (λ i. co
 and-field w x m h =
     sym (field-bits w _ (lt-of-le-of-lt (and-le-r x m) h))
     ∙ field-cong w _ _ (λ i k. bit-and x m i ∙ kept (bit m i) (bit x i))
+
+pub or-field : (w x m : ℕ) → x < 2 ^ w → m < 2 ^ w → bitOr x m ≡ field w (λ i. bit m i || bit x i)
+or-field w x m hx hm =
+    sym (field-bits w _ (or-lt w x m hx hm)) ∙ field-cong w _ _ (λ i k. bit-or x m i ∙ or-comm (bit x i) (bit m i))
 
 pub bit-test : (x i : ℕ) → not (eqb (bitAnd x (2 ^ i)) 0) ≡ bit x i
 unfolding bit

@@ -1,0 +1,11 @@
+-- `Unit::segment` meets its contract. Assumes nothing.
+use borrow.Author.Needs.{needs}
+use Rattle.chip.proofs.unit.Unit.segment.Statement.{statement}
+use Rattle.chip.proofs.unit.Unit.segment.Tie as tie
+
+returns : tie.Need-returns
+returns c = cc
+
+pub segment-spec : {M : Type 1} → statement M
+segment-spec =
+    tie.close (tie.spec (λ c κs. search needs) (λ c κs. search needs) (λ c κs. search needs) (λ c κs. search needs) (λ c κs. search needs) (λ c κs. search needs) (λ c κs. search needs) returns)

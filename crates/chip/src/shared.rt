@@ -1,0 +1,76 @@
+// The registers of which all units hold the same, and the count (handbook 3.2.1, 3.2.3, 3.2.8).
+ghost use mathlib.Core.Path.{_≡_};
+ghost use Prim.Native.Nat.{_<_};
+ghost use Rattle.chip.specs.Shared.{faulted, gsr-of, gsr-byte, with-entry, with-gsr, with-ivr};
+
+const F: u8 = 1 << 7;
+
+const DF: u8 = 1 << 6;
+
+const IE: u8 = 1 << 0;
+
+pub struct Gsr {
+    pub f: bool,
+    pub df: bool,
+    pub ie: bool,
+}
+
+pub struct Shared {
+    pub table: [u8; 16],
+    pub gsr: Gsr,
+    pub ivr: u8,
+    pub count: usize,
+}
+
+impl Gsr {
+    // 4.5.3.3.
+    pub(crate) fn faulted(self) -> Gsr
+        ensures { λ r. ⌜ r ≡ faulted self ⌝ }
+    {
+        Gsr {
+            f: true,
+            df: self.df | self.f,
+            ie: self.ie,
+        }
+    }
+
+    pub(crate) fn of(value: u8) -> Gsr
+        ensures { λ r. ⌜ r ≡ gsr-of value ⌝ }
+    {
+        Gsr {
+            f: value & F != 0,
+            df: value & DF != 0,
+            ie: value & IE != 0,
+        }
+    }
+
+    pub(crate) fn byte(self) -> u8
+        ensures { λ r. ⌜ r ≡ gsr-byte self ⌝ }
+    {
+        128 * (self.f as u8) + 64 * (self.df as u8) + self.ie as u8
+    }
+}
+
+impl Shared {
+    pub(crate) fn with_entry(mut self, i: usize, value: u8) -> Shared
+        requires { ⌜ i < 16 ⌝ }
+        ensures { λ r. ⌜ r ≡ with-entry self i value ⌝ }
+    {
+        self.table[i] = value;
+        self
+    }
+
+    pub(crate) fn with_gsr(mut self, gsr: Gsr) -> Shared
+        ensures { λ r. ⌜ r ≡ with-gsr self gsr ⌝ }
+    {
+        self.gsr = gsr;
+        self
+    }
+
+    pub(crate) fn with_ivr(mut self, ivr: u8) -> Shared
+        ensures { λ r. ⌜ r ≡ with-ivr self ivr ⌝ }
+    {
+        self.ivr = ivr;
+        self
+    }
+}
