@@ -3,4 +3,5 @@ pub mod Clash
 pub mod Free
 pub mod Numbers
 pub mod Each
+pub mod First
 pub mod Units

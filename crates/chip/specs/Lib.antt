@@ -4,3 +4,5 @@ pub mod Unit
 pub mod Change
 pub mod Shared
 pub mod System
+pub mod Search
+pub mod Answer

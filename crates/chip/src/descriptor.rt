@@ -1,6 +1,16 @@
 // A descriptor: a memory segment and how it is mapped to physical addresses (handbook 3.1).
 ghost use mathlib.Core.Path.{_≡_};
-ghost use Rattle.chip.specs.Descriptor.{enabled, range-match, space-match, matches, physical-page, clashes};
+ghost use Rattle.chip.specs.Descriptor.{
+  enabled,
+  protected,
+  pending,
+  range-match,
+  space-match,
+  matches,
+  physical-page,
+  with-ssr,
+  clashes,
+};
 use crate::status;
 use masks::byte;
 use masks::word;
@@ -21,6 +31,27 @@ impl Descriptor {
         ensures { λ r. ⌜ r ≡ enabled self ⌝ }
     {
         self.ssr & status::E != 0
+    }
+
+    // 3.1.6.
+    pub(crate) fn protected(self) -> bool
+        ensures { λ r. ⌜ r ≡ protected self ⌝ }
+    {
+        self.ssr & status::WP != 0
+    }
+
+    // 3.1.6.
+    pub(crate) fn pending(self) -> bool
+        ensures { λ r. ⌜ r ≡ pending self ⌝ }
+    {
+        self.ssr & status::IP != 0
+    }
+
+    pub(crate) fn with_ssr(mut self, ssr: u8) -> Descriptor
+        ensures { λ r. ⌜ r ≡ with-ssr self ssr ⌝ }
+    {
+        self.ssr = ssr;
+        self
     }
 
     // 4.5.3.1.

@@ -1,4 +1,6 @@
+pub mod answer;
 pub mod descriptor;
+pub mod search;
 pub mod shared;
 pub mod status;
 pub mod system;

@@ -1,0 +1,71 @@
+-- Laws of `first`: it finds the first place of which p holds, or there is none.
+--     first-at, first-nowhere      what a search that goes from place to place has shown
+--     first-found, first-missed    what its result tells
+-- Assumes nothing.
+use Prim.Native.Nat.{ℕ, zero, suc, _+_, _<_, _≤_}
+use mathlib.Core.Path.{_≡_, refl, sym, ap, _∙_}
+use mathlib.Core.Logic.{⊎-elim}
+use mathlib.Core.Bool.{Bool, true, false, cond}
+use native.Mathlib.Nat.{eq-or-lt-of-le}
+use native.Mathlib.Omega.{arith}
+use Rattle.chip.specs.Search.{first}
+use Rattle.chip.specs.declared.search.Found.{Found}
+use Rattle.chip.specs.declared.search.Found.the-variants.{At, Nowhere}
+
+module _ (p : ℕ → Bool) where
+  pub first-at : (from n i : ℕ) → from ≤ i → i < from + n → ((k : ℕ) → from ≤ k → k < i → p k ≡ false) → p i ≡ true → first p from n ≡ At i
+  unfolding first
+  first-at from zero i l h none here = absurd (omega arith)
+  first-at from (suc n) i l h none here =
+      ⊎-elim (λ e. let q : p from ≡ true = rw e here in rw q (ap At e))
+      (λ g.
+      let q : p from ≡ false = none from (omega arith) g in
+      rw q (first-at (suc from) n i g (omega arith) (λ k a b. none k (omega arith) b) here))
+      (eq-or-lt-of-le l)
+
+  pub first-nowhere : (from n : ℕ) → ((k : ℕ) → from ≤ k → k < from + n → p k ≡ false) → first p from n ≡ Nowhere
+  unfolding first
+  first-nowhere from zero none = refl
+  first-nowhere from (suc n) none =
+      let q : p from ≡ false = none from (omega arith) (omega arith) in
+      rw q (first-nowhere (suc from) n (λ k a b. none k (omega arith) (omega arith)))
+
+  -- i is the first place of which p holds, at or after `from` and before `end`
+  pub record First (from end i : ℕ) : Type 0 where
+    pub low : from ≤ i
+    pub high : i < end
+    pub here : p i ≡ true
+    pub before : (k : ℕ) → from ≤ k → k < i → p k ≡ false
+
+  pub first-found : (from n i : ℕ) → first p from n ≡ At i → First from (from + n) i
+  unfolding first
+  first-found from zero i e = absurd (let z : _≡_ {A = ℕ} 0 1 = cc in omega arith)
+  first-found from (suc n) i e = go (p from) refl (first-found (suc from) n i) e
+    where
+      go : (b : Bool) → p from ≡ b → (first p (suc from) n ≡ At i → First (suc from) (suc from + n) i)
+          → cond b (At from) (first p (suc from) n) ≡ At i → First from (from + suc n) i
+      go true q later r =
+          let j : from ≡ i = cc in
+          record { low = omega arith; high = omega arith; here = rw j at q; before = λ k a b. absurd (omega arith) }
+      go false q later r =
+          let f = later r in
+          record {
+            low = omega (arith, f .low);
+            high = omega (arith, f .high);
+            here = f .here;
+            before = λ k a b. ⊎-elim (λ g. rw g at q) (λ g. f .before k g b) (eq-or-lt-of-le a);
+          }
+
+  pub first-missed : (from n : ℕ) → first p from n ≡ Nowhere → (k : ℕ) → from ≤ k → k < from + n → p k ≡ false
+  unfolding first
+  first-missed from zero e k a b = absurd (omega arith)
+  first-missed from (suc n) e k a b = go (p from) refl (λ r g. first-missed (suc from) n r k g (omega arith)) e
+    where
+      go : (b : Bool) → p from ≡ b → (first p (suc from) n ≡ Nowhere → from < k → p k ≡ false)
+          → cond b (At from) (first p (suc from) n) ≡ Nowhere → p k ≡ false
+      go true q later r = absurd (let z : _≡_ {A = ℕ} 0 1 = cc in omega arith)
+      go false q later r = ⊎-elim (λ g. rw g at q) (λ g. later r g) (eq-or-lt-of-le a)
+
+-- what held of each place before i, and of i, holds of each before the next
+pub one-more : {P : ℕ → Type 0} (from i : ℕ) → ((k : ℕ) → from ≤ k → k < i → P k) → P i → (k : ℕ) → from ≤ k → k < i + 1 → P k
+one-more {P} from i h here k a b = ⊎-elim (λ e. rw e here) (λ l. h k a l) (eq-or-lt-of-le (let l : k ≤ i = omega arith in l))

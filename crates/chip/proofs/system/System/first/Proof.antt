@@ -1,0 +1,38 @@
+-- `System::first` meets its contract: no place that it has passed fits. Assumes nothing.
+use mathlib.Core.Path.{_≡_, sym, _∙_}
+use mathlib.Core.Bool.{false}
+use native.Mathlib.Omega.{arith}
+use Prim.Native.Nat.{ℕ, _+_, _≤_, _<_, _-_}
+use Rattle.chip.specs.System.{descriptor}
+use Rattle.chip.specs.Search.{answers}
+use Rattle.chip.proofs.First.{first-at, first-nowhere, one-more}
+use Rattle.chip.proofs.Free.{free}
+use Rattle.chip.proofs.system.System.first.Statement.{statement}
+use Rattle.chip.proofs.system.System.first.Tie as tie
+
+abbrev Inv-loop : tie.InvT-loop
+Inv-loop sought from n self i₀ i-end i =
+    (from ≤ i) × (i ≤ from + n) × ((k : ℕ) → from ≤ k → k < i → answers sought (descriptor self k) ≡ false)
+
+abbrev μ-loop : tie.MeasureT-loop
+μ-loop sought from n self i₀ i-end i = from + n - i
+
+loop-holds : tie.Need-loop-holds Inv-loop μ-loop
+loop-holds c = (omega arith, omega arith, λ k a b. absurd (omega arith))
+
+returns : tie.Need-returns Inv-loop μ-loop
+returns c =
+    let at = c .before .before .before .before .loop in
+    sym (first-at _ _ _ (at .i) (omega arith) (omega arith) (at .inv .2) (sym (c .before .answers .ensures) ∙ c .if1 .taken))
+
+loop-again : tie.Need-loop-again Inv-loop μ-loop
+loop-again c =
+    let at = c .before .before .before .before .loop in
+    (omega arith, omega arith, one-more _ (at .i) (at .inv .2) (sym (c .before .answers .ensures) ∙ c .if1 .left))
+
+returns-2 : tie.Need-returns-2 Inv-loop μ-loop
+returns-2 c = sym (first-nowhere _ _ _ (λ k a b. c .before .loop .inv .2 k a (omega arith)))
+
+pub first-spec : {M : Type 1} → statement M
+first-spec =
+    tie.close (tie.spec Inv-loop μ-loop (λ c. omega arith) loop-holds (λ c. omega arith) (λ c. omega arith) free returns (λ c. omega arith) (λ c. omega arith) loop-again returns-2)

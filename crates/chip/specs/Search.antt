@@ -1,0 +1,56 @@
+-- The priority encoder: handbook 3.2.6 and 3.2.7. Descriptor 0 has the highest priority; of several
+-- units the lowest (document 01, "A bus access").
+use Prim.Native.Nat.{ℕ, suc, zero, _*_, _%_}
+use mathlib.Core.Bool.{Bool, true, false, _&&_, cond}
+use Rattle.chip.specs.Descriptor.{matches, pending, collides}
+use Rattle.chip.specs.Unit.{none}
+use Rattle.chip.specs.System.{present, descriptor}
+use Rattle.chip.specs.declared.descriptor.Descriptor.{Descriptor}
+use Rattle.chip.specs.declared.system.System.{System}
+use Rattle.chip.specs.declared.search.Sought.{Sought}
+use Rattle.chip.specs.declared.search.Sought.the-variants.{Match, Clash, Pending}
+use Rattle.chip.specs.declared.search.Found.{Found}
+use Rattle.chip.specs.declared.search.Found.the-variants.{At, Nowhere}
+
+-- the lowest of n places, the first of them `from`, of which p holds
+unfoldable pub first : (ℕ → Bool) → (from n : ℕ) → Found
+first p from zero = Nowhere
+first p from (suc n) = cond (p from) (At from) (first p (suc from) n)
+
+abbrev pub found : Found → Bool
+found (At i) = true
+found Nowhere = false
+
+-- 3.2.6, 3.2.7: the number of the descriptor selected by the priority encoder, or NVR or NVI
+abbrev pub number-of : Found → ℕ
+number-of (At i) = i % 32
+number-of Nowhere = none
+
+-- what is sought of a descriptor, by name: it matches; it is one that d collides with; it has IP set
+abbrev pub answers : Sought → Descriptor → Bool
+answers (Match page number) e = matches e page number
+answers (Clash d) e = collides d e
+answers Pending e = pending e
+
+-- the first descriptor of the system, and of unit m, of which p holds
+abbrev pub in-system : (Descriptor → Bool) → System → Found
+in-system p s = first (λ i. p (descriptor s i)) 0 (32 * present s)
+
+abbrev pub in-unit : (Descriptor → Bool) → (m : ℕ) → System → Found
+in-unit p m s = first (λ i. p (descriptor s i)) (32 * m) 32
+
+-- 4.5.3.1, 4.5.3.4: the descriptor that matches, if any
+abbrev pub matching : (page number : ℕ) → System → Found
+matching page number = in-system (λ d. matches d page number)
+
+-- 3.2.4: LIP is set if one or more descriptors have IP set
+abbrev pub lip : (m : ℕ) → System → Bool
+lip m s = found (in-unit pending m s)
+
+-- 3.2.7: the highest-priority descriptor which has IP set in its SSR
+abbrev pub idp : (m : ℕ) → System → ℕ
+idp m s = number-of (in-unit pending m s)
+
+-- 2.14, 3.2.3: the interrupt request line: IE, and an IP bit in some unit
+abbrev pub irq : System → Bool
+irq s = s .shared .gsr .ie && found (in-system pending s)

@@ -1,0 +1,145 @@
+// The answers, and document 01's number and values for each.
+ghost use mathlib.Core.Path.{_≡_};
+ghost use Rattle.chip.specs.Answer.{number, nothing, values, refused, granted, miscounted, absent};
+use crate::system::System;
+
+pub enum Refusal {
+    Count,
+    Unit,
+    Register,
+    FunctionCode,
+    Address,
+    Interrupt,
+}
+
+pub enum Answer {
+    Refused(Refusal),
+    Done,
+    Byte(u8),
+    Mapped {
+        address: u32,
+        unit: u8,
+        descriptor: u8,
+        win: bool,
+    },
+    Violation {
+        unit: u8,
+        descriptor: u8,
+        win: bool,
+    },
+    Undefined,
+}
+
+// An answer as numbers: what a kind of answer does not have is zero.
+pub struct Values {
+    pub number: u8,
+    pub address: u32,
+    pub unit: u8,
+    pub descriptor: u8,
+    pub win: bool,
+    pub byte: u8,
+}
+
+// An answer, the interrupt request as it stands after the call, and the whole system after it.
+pub struct Outcome {
+    pub answer: Answer,
+    pub irq: bool,
+    pub system: System,
+}
+
+impl Refusal {
+    pub fn number(self) -> u8
+        ensures { λ r. ⌜ r ≡ number self ⌝ }
+    {
+        match self {
+            Refusal::Count => 1,
+            Refusal::Unit => 2,
+            Refusal::Register => 3,
+            Refusal::FunctionCode => 4,
+            Refusal::Address => 5,
+            Refusal::Interrupt => 6,
+        }
+    }
+}
+
+impl Values {
+    fn none() -> Values
+        ensures { λ r. ⌜ r ≡ nothing ⌝ }
+    {
+        Values {
+            number: 0,
+            address: 0,
+            unit: 0,
+            descriptor: 0,
+            win: false,
+            byte: 0,
+        }
+    }
+}
+
+impl Answer {
+    pub fn values(self) -> Values
+        ensures { λ r. ⌜ r ≡ values self ⌝ }
+    {
+        let mut values = Values::none();
+        match self {
+            Answer::Refused(refusal) => {
+                values.number = refusal.number();
+            }
+            Answer::Byte(byte) => {
+                values.byte = byte;
+            }
+            Answer::Mapped {
+                address,
+                unit,
+                descriptor,
+                win,
+            } => {
+                values.address = address;
+                values.unit = unit;
+                values.descriptor = descriptor;
+                values.win = win;
+            }
+            Answer::Violation {
+                unit,
+                descriptor,
+                win,
+            } => {
+                values.unit = unit;
+                values.descriptor = descriptor;
+                values.win = win;
+            }
+            Answer::Done => {}
+            Answer::Undefined => {}
+        }
+        values
+    }
+}
+
+pub(crate) fn miscounted(count: usize) -> bool
+    ensures { λ r. ⌜ r ≡ miscounted count ⌝ }
+{
+    (count == 0) | (count > 6)
+}
+
+impl System {
+    pub(crate) fn refused(self, refusal: Refusal) -> Outcome
+        ensures { λ r. ⌜ r ≡ refused refusal self ⌝ }
+    {
+        Outcome {
+            answer: Answer::Refused(refusal),
+            irq: false,
+            system: self,
+        }
+    }
+
+    pub(crate) fn granted(self, answer: Answer) -> Outcome
+        ensures { λ r. ⌜ r ≡ granted answer self ⌝ }
+    {
+        Outcome {
+            answer,
+            irq: self.irq(),
+            system: self,
+        }
+    }
+}
