@@ -42,19 +42,11 @@ refused r s = record { answer = Refused r; irq = false; system = s }
 unfoldable pub granted : Answer → System → Outcome
 granted a s = record { answer = a; irq = irq s; system = s }
 
--- a check: the refusal, and when it is given
-pub record Check : Type 0 where
-  pub refusal : Refusal
-  pub applies : Bool
-
-infix 20 _when_
-abbrev pub _when_ : Refusal → Bool → Check
-r when b = record { refusal = r; applies = b }
-
--- the first check that applies decides; else the call goes on
-abbrev pub checked : List Check → System → Outcome → Outcome
+-- the checks of a call in their order, each a refusal and when it is given: the first that applies
+-- decides, and where none does the call goes on
+abbrev pub checked : List (Refusal × Bool) → System → Outcome → Outcome
 checked [] s o = o
-checked (c ∷ cs) s o = cond (c .applies) (refused (c .refusal) s) (checked cs s o)
+checked (c ∷ cs) s o = cond (c .1) (refused (c .0) s) (checked cs s o)
 
 -- 1: the count is 0 or above 6
 abbrev pub miscounted : (count : ℕ) → Bool

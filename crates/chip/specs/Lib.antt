@@ -6,3 +6,10 @@ pub mod Shared
 pub mod System
 pub mod Search
 pub mod Answer
+pub mod Reset
+pub mod Access
+pub mod Transfer
+pub mod Load
+pub mod Translation
+pub mod Acknowledge
+pub mod Register

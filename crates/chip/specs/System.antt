@@ -1,5 +1,5 @@
 -- One to six units on one board: handbook 4.2, document 01 "What the model covers".
-use Prim.Native.Nat.{ℕ, suc, zero, _+_, _*_, min}
+use Prim.Native.Nat.{ℕ, suc, zero, min}
 use mathlib.Core.List.{List, [], _∷_}
 use lib.ListN.{getD, set}
 use Rattle.chip.specs.Descriptor.{zeros}
@@ -18,10 +18,7 @@ present s = min (s .shared .count) 6
 abbrev pub unit : System → (m : ℕ) → Unit
 unit s m = getD (s .units) m nothing
 
--- descriptor n of unit m has this place among the 192
-abbrev pub place : (m n : ℕ) → ℕ
-place m n = 32 * m + n
-
+-- the descriptor at place i of the 192: descriptor i % 32 of unit i / 32
 abbrev pub descriptor : System → (i : ℕ) → Descriptor
 descriptor s i = getD (s .descriptors) i zeros
 

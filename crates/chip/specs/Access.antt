@@ -1,0 +1,76 @@
+-- A bus access, the normal address translation: handbook 4.5.3.
+use Prim.Native.Nat.{ℕ, _+_, _*_, _/_, _%_}
+use mathlib.Core.Bool.{Bool, true, false, not, _&&_, cond}
+use mathlib.Core.List.{List, [], _∷_}
+use lib.ListN.{getD}
+use lib.Dec.{ltb}
+use Rattle.chip.specs.Status.{used, modified}
+use Rattle.chip.specs.Descriptor.{protected, physical-page, with-ssr}
+use Rattle.chip.specs.Unit.{NO, USA, WV, none, latch, report, with-rw}
+use Rattle.chip.specs.Shared.{faulted, with-gsr}
+use Rattle.chip.specs.System.{unit, descriptor, with-descriptor, with-unit, with-shared, in-all}
+use Rattle.chip.specs.Search.{matching}
+use Rattle.chip.specs.Answer.{granted, checked, miscounted}
+use Rattle.chip.specs.declared.system.System.{System}
+use Rattle.chip.specs.declared.search.Found.{Found}
+use Rattle.chip.specs.declared.search.Found.the-variants.{At, Nowhere}
+use Rattle.chip.specs.declared.access.Cycle.{Cycle}
+use Rattle.chip.specs.declared.access.Cycle.the-variants.{Read, Write}
+use Rattle.chip.specs.declared.answer.Refusal.the-variants as refusal
+use Rattle.chip.specs.declared.answer.Answer.the-variants.{Mapped, Violation, Undefined}
+use Rattle.chip.specs.declared.answer.Outcome.{Outcome}
+
+abbrev pub writes : Cycle → Bool
+writes Read = false
+writes Write = true
+
+-- 4.5.3.2: the U and, if the cycle was a write, the M bits are set; if the I bit is set, then IP
+abbrev pub touched : Cycle → (ssr : ℕ) → ℕ
+touched Read ssr = used ssr
+touched Write ssr = modified (used ssr)
+
+-- 3.2.3, 3.2.4: on a fault F is set, DF if F was previously set; RW is latched in every unit: 1 for a read
+unfoldable pub fault : Cycle → System → System
+fault cycle s =
+    let t = in-all (λ u. with-rw u (not (writes cycle))) s in
+    with-shared t (with-gsr (t .shared) (faulted (t .shared .gsr)))
+
+-- 4.5.3.3, 4.5.3.6: a write violation in unit m, at its descriptor n: L4-L7 are cleared in every other
+-- unit, and the RDP has no valid result there
+unfoldable pub violation : Cycle → (page number m n : ℕ) → System → System
+violation cycle page number m n s =
+    let t = in-all (report NO none) (fault cycle s) in
+    with-unit t m (report WV n (latch page number (unit t m)))
+
+-- 4.5.3.7: an undefined segment access
+unfoldable pub undefined : Cycle → (page number : ℕ) → System → System
+undefined cycle page number s = in-all (report USA none) (in-all (latch page number) (fault cycle s))
+
+-- 4.5.3.2: the descriptor at place i matches; WIN is reported when WP is set (2.23)
+unfoldable pub match-at : (i : ℕ) → Cycle → (page number offset : ℕ) → System → Outcome
+match-at i cycle page number offset s =
+    let d = descriptor s i in
+    let m = i / 32 in
+    let n = i % 32 in
+    cond (writes cycle && protected d)
+    (granted (Violation m n true) (violation cycle page number m n s))
+    (granted (Mapped (256 * physical-page d page + offset) m n (protected d))
+    (with-descriptor s i (with-ssr d (touched cycle (d .ssr)))))
+
+unfoldable pub translate-at : Found → Cycle → (page number offset : ℕ) → System → Outcome
+translate-at (At i) cycle page number offset s = match-at i cycle page number offset s
+translate-at Nowhere cycle page number offset s = granted Undefined (undefined cycle page number s)
+
+-- 4.5.3: the function code selects the cycle address space number; the low eight address bits pass
+unfoldable pub translate : (code : ℕ) → Cycle → (address : ℕ) → System → Outcome
+translate code cycle address s =
+    let page = address / 256 in
+    let number = getD (s .shared .table) code 0 in
+    translate-at (matching page number s) cycle page number (address % 256) s
+
+unfoldable pub access : (code : ℕ) → Cycle → (address : ℕ) → System → Outcome
+access code cycle address s =
+    checked
+    ((refusal.Count, miscounted (s .shared .count)) ∷ (refusal.FunctionCode, ltb 15 code)
+    ∷ (refusal.Address, ltb 0xFFFFFF address) ∷ [])
+    s (translate code cycle address s)

@@ -1,0 +1,56 @@
+-- Start and reset: handbook 4.5.1.
+use Prim.Native.Nat.{ℕ, _*_}
+use mathlib.Core.Bool.{Bool, false}
+use mathlib.Core.List.{List, [], _∷_}
+use lib.ListN.{replicate}
+use Rattle.chip.specs.Descriptor.{zeros}
+use Rattle.chip.specs.Unit.{NO, none, local, report}
+use Rattle.chip.specs.System.{with-descriptor, in-all}
+use Rattle.chip.specs.Answer.{granted, checked, miscounted, absent}
+use Rattle.chip.specs.declared.descriptor.Descriptor.{Descriptor}
+use Rattle.chip.specs.declared.unit.Unit.{Unit}
+use Rattle.chip.specs.declared.shared.Shared.{Shared}
+use Rattle.chip.specs.declared.system.System.{System}
+use Rattle.chip.specs.declared.reset.Selected.{Selected}
+use Rattle.chip.specs.declared.reset.Selected.the-variants as selected
+use Rattle.chip.specs.declared.answer.Refusal.the-variants as refusal
+use Rattle.chip.specs.declared.answer.Answer.the-variants.{Done}
+use Rattle.chip.specs.declared.answer.Outcome.{Outcome}
+
+-- accumulator, marks, DP and LSR zero
+abbrev pub blank : Unit
+blank = record { accumulator = replicate 9 (local 0); dp = 0; rdp = 0; l = 0; rw = false }
+
+-- the table and the GSR zero, the IVR $0F
+abbrev pub uninitialized : (count : ℕ) → Shared
+uninitialized count = record { table = replicate 16 0; gsr = record { f = false; df = false; ie = false }; ivr = 0x0F; count = count }
+
+-- every descriptor is disabled (and zero); in each unit there is the RDP is $80
+unfoldable pub unselected : (count : ℕ) → System
+unselected count =
+    in-all (report NO none)
+    (record { descriptors = replicate 192 zeros; units = replicate 6 blank; shared = uninitialized count })
+
+-- descriptor 0 of the selected MMU: LAM and ASN $00, ASM $FF, the enable bit set
+abbrev pub identity : Descriptor
+identity = record { lba = 0; lam = 0; pba = 0; asn = 0; ssr = 0x01; asm = 0xFF }
+
+-- the system after reset
+unfoldable pub fresh : (count : ℕ) → Selected → System
+fresh count selected.Nobody = unselected count
+fresh count (selected.Unit m) = with-descriptor (unselected count) (32 * m) identity
+
+-- 2, at start and reset: "none" is allowed
+abbrev pub unselectable : Selected → (count : ℕ) → Bool
+unselectable selected.Nobody count = false
+unselectable (selected.Unit m) count = absent m count
+
+-- a start of `count` units
+unfoldable pub start : (count : ℕ) → Selected → System → Outcome
+start count unit s =
+    checked ((refusal.Count, miscounted count) ∷ (refusal.Unit, unselectable unit count) ∷ [])
+    s (granted Done (fresh count unit))
+
+-- a reset of the units that are there
+unfoldable pub reset : Selected → System → Outcome
+reset unit s = start (s .shared .count) unit s

@@ -1,0 +1,27 @@
+-- Direct translation: handbook 4.6.3.3.
+use Prim.Native.Nat.{ℕ, _/_, _%_}
+use Rattle.chip.specs.Descriptor.{physical-page}
+use Rattle.chip.specs.Unit.{NO, none, ac, word, report, translated, for-translation}
+use Rattle.chip.specs.System.{unit, descriptor, with-unit, in-all}
+use Rattle.chip.specs.Search.{matching}
+use Rattle.chip.specs.Transfer.{reading}
+use Rattle.chip.specs.Load.{prepare}
+use Rattle.chip.specs.declared.system.System.{System}
+use Rattle.chip.specs.declared.search.Found.{Found}
+use Rattle.chip.specs.declared.search.Found.the-variants.{At, Nowhere}
+use Rattle.chip.specs.declared.transfer.Reading.{Reading}
+
+-- the result, where the matching descriptor was found: L4-L7 are cleared in every other unit
+unfoldable pub result-at : Found → (page : ℕ) → System → Reading
+result-at Nowhere page s = reading 0xFF (in-all (report NO none) s)
+result-at (At i) page s =
+    let t = in-all (report NO none) s in
+    reading 0x00
+    (with-unit t (i / 32) (translated (physical-page (descriptor s i) page) (i % 32) (unit t (i / 32))))
+
+-- the logical address in AC0-AC1 in the address space AC6 of unit m
+unfoldable pub direct-translation : (m : ℕ) → System → Reading
+direct-translation m s =
+    let t = prepare for-translation m s in
+    let page = word (unit t m) 0 in
+    result-at (matching page (ac (unit t m) 6) t) page t

@@ -1,0 +1,132 @@
+// A bus access: normal address translation, and the two faults (handbook 4.5.3).
+ghost use mathlib.Core.Path.{_≡_};
+ghost use Prim.Native.Nat.{_+_, _*_, _<_};
+ghost use Rattle.chip.specs.Access.{writes, touched, fault, violation, undefined, match-at, translate, access};
+use crate::answer;
+use crate::answer::Answer;
+use crate::answer::Outcome;
+use crate::answer::Refusal;
+use crate::search::Found;
+use crate::search::Sought;
+use crate::status;
+use crate::system::System;
+use crate::unit;
+use crate::unit::Change;
+
+pub enum Cycle {
+    Read,
+    Write,
+}
+
+impl Cycle {
+    fn writes(self) -> bool
+        ensures { λ r. ⌜ r ≡ writes self ⌝ }
+    {
+        match self {
+            Cycle::Read => false,
+            Cycle::Write => true,
+        }
+    }
+
+    fn touched(self, ssr: u8) -> u8
+        ensures { λ r. ⌜ r ≡ touched self ssr ⌝ }
+    {
+        match self {
+            Cycle::Read => status::used(ssr),
+            Cycle::Write => status::modified(status::used(ssr)),
+        }
+    }
+}
+
+fn physical(page: u16, offset: u8) -> u32
+    ensures { λ r. ⌜ r ≡ 256 * page + offset ⌝ }
+{
+    256 * (page as u32) + offset as u32
+}
+
+impl System {
+    fn fault(self, cycle: Cycle) -> System
+        ensures { λ r. ⌜ r ≡ fault cycle self ⌝ }
+    {
+        let t = self.in_all(Change::Rw(!cycle.writes()));
+        let shared = t.shared;
+        t.with_shared(shared.with_gsr(shared.gsr.faulted()))
+    }
+
+    // 4.5.3.3 in the unit that matches, 4.5.3.6 in the others.
+    fn violation(self, cycle: Cycle, page: u16, number: u8, m: usize, n: u8) -> System
+        requires { ⌜ m < 6 ⌝ }
+        ensures { λ r. ⌜ r ≡ violation cycle page number m n self ⌝ }
+    {
+        let t = self.fault(cycle)
+            .in_all(Change::Report(unit::NO, unit::NONE));
+        t.with_unit(m, t.unit(m).latch(page, number).report(unit::WV, n))
+    }
+
+    // 4.5.3.7.
+    fn undefined(self, cycle: Cycle, page: u16, number: u8) -> System
+        ensures { λ r. ⌜ r ≡ undefined cycle page number self ⌝ }
+    {
+        self.fault(cycle)
+            .in_all(Change::Latch(page, number))
+            .in_all(Change::Report(unit::USA, unit::NONE))
+    }
+
+    fn match_at(self, i: usize, cycle: Cycle, page: u16, number: u8, offset: u8) -> Outcome
+        requires { ⌜ i < 192 ⌝ }
+        ensures { λ r. ⌜ r ≡ match-at i cycle page number offset self ⌝ }
+    {
+        let d = self.descriptor(i);
+        let unit = (i / 32) as u8;
+        let descriptor = (i % 32) as u8;
+        let win = d.protected();
+        if cycle.writes() & win {
+            let answer = Answer::Violation {
+                unit,
+                descriptor,
+                win: true,
+            };
+            return self.violation(cycle, page, number, i / 32, descriptor)
+                .granted(answer);
+        }
+        let answer = Answer::Mapped {
+            address: physical(d.physical_page(page), offset),
+            unit,
+            descriptor,
+            win,
+        };
+        self.with_descriptor(i, d.with_ssr(cycle.touched(d.ssr)))
+            .granted(answer)
+    }
+
+    fn translate(self, code: usize, cycle: Cycle, address: u64) -> Outcome
+        requires { ⌜ (code < 16) × (address < 16777216) ⌝ }
+        ensures { λ r. ⌜ r ≡ translate code cycle address self ⌝ }
+    {
+        let page = (address / 256) as u16;
+        let offset = (address % 256) as u8;
+        let table = self.shared.table;
+        let number = table[code];
+        match self.in_system(Sought::Match(page, number)) {
+            Found::At(i) => self.match_at(i, cycle, page, number, offset),
+            Found::Nowhere => self.undefined(cycle, page, number)
+                .granted(Answer::Undefined),
+        }
+    }
+
+    pub fn access(self, function_code: u64, cycle: Cycle, address: u64) -> Outcome
+        ensures { λ r. ⌜ r ≡ access «function_code» cycle address self ⌝ }
+    {
+        let count = self.shared.count;
+        if answer::miscounted(count) {
+            return self.refused(Refusal::Count);
+        }
+        if function_code > 15 {
+            return self.refused(Refusal::FunctionCode);
+        }
+        if address > 0xFF_FFFF {
+            return self.refused(Refusal::Address);
+        }
+        self.translate(function_code as usize, cycle, address)
+    }
+}

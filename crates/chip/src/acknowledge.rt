@@ -1,0 +1,26 @@
+// Interrupt acknowledge (handbook 4.6.2.1).
+ghost use mathlib.Core.Path.{_≡_};
+ghost use Rattle.chip.specs.Acknowledge.{acknowledge};
+use crate::answer;
+use crate::answer::Answer;
+use crate::answer::Outcome;
+use crate::answer::Refusal;
+use crate::system::System;
+
+impl System {
+    pub fn acknowledge(self, unit: u64) -> Outcome
+        ensures { λ r. ⌜ r ≡ acknowledge unit self ⌝ }
+    {
+        let count = self.shared.count;
+        if answer::miscounted(count) {
+            return self.refused(Refusal::Count);
+        }
+        if unit >= count as u64 {
+            return self.refused(Refusal::Unit);
+        }
+        if !self.irq() {
+            return self.refused(Refusal::Interrupt);
+        }
+        self.granted(Answer::Byte(self.shared.ivr))
+    }
+}

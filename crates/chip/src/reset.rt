@@ -1,0 +1,130 @@
+// Start and reset (handbook 4.5.1).
+ghost use mathlib.Core.Path.{_≡_};
+ghost use Rattle.chip.specs.Descriptor.{zeros};
+ghost use Rattle.chip.specs.Reset.{blank, uninitialized, unselected, identity, start, reset};
+use crate::answer;
+use crate::answer::Answer;
+use crate::answer::Outcome;
+use crate::answer::Refusal;
+use crate::descriptor::Descriptor;
+use crate::shared::Gsr;
+use crate::shared::Shared;
+use crate::status;
+use crate::system::System;
+use crate::unit;
+use crate::unit::Byte;
+use crate::unit::Change;
+use crate::unit::Unit;
+
+// The unit that is chip-selected during reset, if any.
+pub enum Selected {
+    Unit(u64),
+    Nobody,
+}
+
+fn zeros() -> Descriptor
+    ensures { λ r. ⌜ r ≡ zeros ⌝ }
+{
+    Descriptor {
+        lba: 0,
+        lam: 0,
+        pba: 0,
+        asn: 0,
+        ssr: 0,
+        asm: 0,
+    }
+}
+
+fn identity() -> Descriptor
+    ensures { λ r. ⌜ r ≡ identity ⌝ }
+{
+    Descriptor {
+        lba: 0,
+        lam: 0,
+        pba: 0,
+        asn: 0,
+        ssr: status::E,
+        asm: 0xFF,
+    }
+}
+
+fn blank() -> Unit
+    ensures { λ r. ⌜ r ≡ blank ⌝ }
+{
+    let byte = Byte {
+        value: 0,
+        global: false,
+    };
+    let accumulator = [byte; 9];
+    Unit {
+        accumulator,
+        dp: 0,
+        rdp: 0,
+        l: unit::NO,
+        rw: false,
+    }
+}
+
+fn uninitialized(count: usize) -> Shared
+    ensures { λ r. ⌜ r ≡ uninitialized count ⌝ }
+{
+    let table = [0u8; 16];
+    let gsr = Gsr {
+        f: false,
+        df: false,
+        ie: false,
+    };
+    Shared {
+        table,
+        gsr,
+        ivr: 0x0F,
+        count,
+    }
+}
+
+impl System {
+    fn unselected(count: usize) -> System
+        ensures { λ r. ⌜ r ≡ unselected count ⌝ }
+    {
+        let descriptor = zeros();
+        let descriptors = [descriptor; 192];
+        let unit = blank();
+        let units = [unit; 6];
+        let shared = uninitialized(count);
+        let system = System {
+            descriptors,
+            units,
+            shared,
+        };
+        system.in_all(Change::Report(unit::NO, unit::NONE))
+    }
+
+    pub fn start(self, count: u64, selected: Selected) -> Outcome
+        ensures { λ r. ⌜ r ≡ start count selected self ⌝ }
+    {
+        let n = count as usize;
+        if answer::miscounted(n) {
+            return self.refused(Refusal::Count);
+        }
+        match selected {
+            Selected::Nobody => System::unselected(n).granted(Answer::Done),
+            Selected::Unit(m) => {
+                if m < count {
+                    let i = 32 * (m as usize);
+                    System::unselected(n)
+                        .with_descriptor(i, identity())
+                        .granted(Answer::Done)
+                } else {
+                    self.refused(Refusal::Unit)
+                }
+            }
+        }
+    }
+
+    pub fn reset(self, selected: Selected) -> Outcome
+        ensures { λ r. ⌜ r ≡ reset selected self ⌝ }
+    {
+        let count = self.shared.count;
+        self.start(count as u64, selected)
+    }
+}
