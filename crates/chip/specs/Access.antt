@@ -2,12 +2,11 @@
 use Prim.Native.Nat.{ℕ, _+_, _*_, _/_, _%_}
 use mathlib.Core.Bool.{Bool, true, false, not, _&&_, cond}
 use mathlib.Core.List.{List, [], _∷_}
-use lib.ListN.{getD}
 use lib.Dec.{ltb}
 use Rattle.chip.specs.Status.{used, modified}
 use Rattle.chip.specs.Descriptor.{protected, physical-page, with-ssr}
 use Rattle.chip.specs.Unit.{NO, USA, WV, none, latch, report, with-rw}
-use Rattle.chip.specs.Shared.{faulted, with-gsr}
+use Rattle.chip.specs.Shared.{entry, faulted, with-gsr}
 use Rattle.chip.specs.System.{unit, descriptor, with-descriptor, with-unit, with-shared, in-all}
 use Rattle.chip.specs.Search.{matching}
 use Rattle.chip.specs.Answer.{granted, checked, miscounted}
@@ -65,7 +64,7 @@ translate-at Nowhere cycle page number offset s = granted Undefined (undefined c
 unfoldable pub translate : (code : ℕ) → Cycle → (address : ℕ) → System → Outcome
 translate code cycle address s =
     let page = address / 256 in
-    let number = getD (s .shared .table) code 0 in
+    let number = entry (s .shared) code in
     translate-at (matching page number s) cycle page number (address % 256) s
 
 unfoldable pub access : (code : ℕ) → Cycle → (address : ℕ) → System → Outcome

@@ -2,10 +2,9 @@
 use Prim.Native.Nat.{ℕ, _-_, _/_, _%_}
 use mathlib.Core.Bool.{Bool, cond}
 use mathlib.Core.List.{[], _∷_}
-use lib.ListN.{getD}
 use lib.Dec.{eqb, ltb}
 use Rattle.chip.specs.Unit.{NO, ac, lsr, write-ac, write-dp, write-lsr, with-l}
-use Rattle.chip.specs.Shared.{gsr-of, gsr-byte, with-entry, with-gsr, with-ivr}
+use Rattle.chip.specs.Shared.{entry, gsr-of, gsr-byte, with-entry, with-gsr, with-ivr}
 use Rattle.chip.specs.System.{unit, with-shared, in-all}
 use Rattle.chip.specs.Search.{lip, idp}
 use Rattle.chip.specs.Answer.{granted, checked, miscounted, absent}
@@ -41,7 +40,7 @@ register-at a =
 -- 4.6.2.2: a register is read in unit m; some addresses designate an operation, and a null operation
 -- drives the bus high (4.6.2.5)
 unfoldable pub read : Register → (m : ℕ) → System → Reading
-read (Ast i) m s = reading (getD (s .shared .table) i 0) s
+read (Ast i) m s = reading (entry (s .shared) i) s
 read (Ac i) m s = reading (ac (unit s m) i) s
 read Dp m s = reading (unit s m .dp) s
 read Ivr m s = reading (s .shared .ivr) s

@@ -1,7 +1,7 @@
 -- The registers of which all units hold the same: handbook 3.2.1, 3.2.3 and 3.2.8; and how many units there are.
 use Prim.Native.Nat.{ℕ, _+_, _*_}
 use mathlib.Core.Bool.{Bool, true, _||_}
-use lib.ListN.{set}
+use lib.ListN.{getD, set}
 use Rattle.masks.specs.Fields.{bit}
 use Rattle.chip.specs.Unit.{flag}
 use Rattle.chip.specs.declared.shared.Gsr.{Gsr}
@@ -27,6 +27,10 @@ gsr-of value = record { f = bit value F; df = bit value DF; ie = bit value IE }
 
 abbrev pub gsr-byte : Gsr → ℕ
 gsr-byte g = 128 * flag (g .f) + 64 * flag (g .df) + flag (g .ie)
+
+-- 3.2.1: entry i of the address space table
+abbrev pub entry : Shared → (i : ℕ) → ℕ
+entry h i = getD (h .table) i 0
 
 -- The shared registers with one of them changed.
 unfoldable pub with-entry : Shared → (i value : ℕ) → Shared

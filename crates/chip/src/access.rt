@@ -100,13 +100,12 @@ impl System {
     }
 
     fn translate(self, code: usize, cycle: Cycle, address: u64) -> Outcome
-        requires { ⌜ (code < 16) × (address < 16777216) ⌝ }
+        requires { ⌜ address < 16777216 ⌝ }
         ensures { λ r. ⌜ r ≡ translate code cycle address self ⌝ }
     {
         let page = (address / 256) as u16;
         let offset = (address % 256) as u8;
-        let table = self.shared.table;
-        let number = table[code];
+        let number = self.shared.entry(code);
         match self.in_system(Sought::Match(page, number)) {
             Found::At(i) => self.match_at(i, cycle, page, number, offset),
             Found::Nowhere => self.undefined(cycle, page, number)

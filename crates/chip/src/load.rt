@@ -57,7 +57,7 @@ impl System {
     }
 
     fn send(self, i: usize, m: usize) -> System
-        requires { ⌜ (i < 9) × (m < 6) ⌝ }
+        requires { ⌜ m < 6 ⌝ }
         ensures { λ r. ⌜ r ≡ send i m self ⌝ }
     {
         self.in_all(Change::Ac(i, self.unit(m).ac(i)))

@@ -1,6 +1,7 @@
 // The registers by their addresses (handbook 4.6.1, Table 4-3).
 ghost use mathlib.Core.Path.{_≡_};
 ghost use Prim.Native.Nat.{_<_};
+ghost use Rattle.chip.specs.Transfer.{reading};
 ghost use Rattle.chip.specs.Register.{register-at, read, write, write-gsr, operate, register};
 use crate::answer;
 use crate::answer::Answer;
@@ -58,5 +59,95 @@ impl Register {
             0x3F => Register::LoadDescriptor,
             _ => Register::Null,
         }
+    }
+}
+
+impl System {
+    fn reading(self, byte: u8) -> Reading
+        ensures { λ r. ⌜ r ≡ reading byte self ⌝ }
+    {
+        Reading { byte, system: self }
+    }
+
+    fn read(self, register: Register, m: usize) -> Reading
+        requires { ⌜ m < 6 ⌝ }
+        ensures { λ r. ⌜ r ≡ read register m self ⌝ }
+    {
+        let unit = self.unit(m);
+        match register {
+            Register::Ast(i) => self.reading(self.shared.entry(i)),
+            Register::Ac(i) => self.reading(unit.ac(i)),
+            Register::Dp => self.reading(unit.dp),
+            Register::Ivr => self.reading(self.shared.ivr),
+            Register::Gsr => self.reading(self.shared.gsr.byte()),
+            Register::Lsr => self.reading(unit.lsr(self.in_unit(Sought::Pending, m).found())),
+            Register::Ssr => self.transfer(m),
+            Register::Idp => self.reading(self.in_unit(Sought::Pending, m).number()),
+            Register::Rdp => self.reading(unit.rdp),
+            Register::DirectTranslation => self.direct_translation(m),
+            Register::LoadDescriptor => self.load(m),
+            Register::Null => self.reading(0xFF),
+        }
+    }
+
+    fn write_gsr(self, value: u8) -> System
+        ensures { λ r. ⌜ r ≡ write-gsr value self ⌝ }
+    {
+        let gsr = Gsr::of(value);
+        let t = self.with_shared(self.shared.with_gsr(gsr));
+        if gsr.f {
+            t
+        } else {
+            t.in_all(Change::L(unit::NO))
+        }
+    }
+
+    fn write(self, register: Register, m: usize, value: u8) -> System
+        requires { ⌜ m < 6 ⌝ }
+        ensures { λ r. ⌜ r ≡ write register m value self ⌝ }
+    {
+        match register {
+            Register::Ast(i) => self.with_shared(self.shared.with_entry(i, value)),
+            Register::Ac(i) => self.in_all(Change::Ac(i, value)),
+            Register::Dp => self.in_all(Change::Dp(value)),
+            Register::Ivr => self.with_shared(self.shared.with_ivr(value)),
+            Register::Gsr => self.write_gsr(value),
+            Register::Lsr => self.in_all(Change::Lsr(value)),
+            Register::Ssr => self.write_status(m, value),
+            Register::Idp => self,
+            Register::Rdp => self,
+            Register::DirectTranslation => self,
+            Register::LoadDescriptor => self,
+            Register::Null => self,
+        }
+    }
+
+    fn operate(self, operation: Operation, register: Register, m: usize) -> Outcome
+        requires { ⌜ m < 6 ⌝ }
+        ensures { λ r. ⌜ r ≡ operate operation register m self ⌝ }
+    {
+        match operation {
+            Operation::Read => {
+                let reading = self.read(register, m);
+                reading.system.granted(Answer::Byte(reading.byte))
+            }
+            Operation::Write(value) => self.write(register, m, value).granted(Answer::Done),
+        }
+    }
+
+    pub fn register(self, unit: u64, address: u64, operation: Operation) -> Outcome
+        ensures { λ r. ⌜ r ≡ register unit address operation self ⌝ }
+    {
+        let count = self.shared.count;
+        if answer::miscounted(count) {
+            return self.refused(Refusal::Count);
+        }
+        if unit >= count as u64 {
+            return self.refused(Refusal::Unit);
+        }
+        if address > 0x3F {
+            return self.refused(Refusal::Register);
+        }
+        self.operate(operation, Register::at(address), unit as usize)
     }
 }

@@ -1,7 +1,6 @@
 // The registers of which all units hold the same, and the count (handbook 3.2.1, 3.2.3, 3.2.8).
 ghost use mathlib.Core.Path.{_≡_};
-ghost use Prim.Native.Nat.{_<_};
-ghost use Rattle.chip.specs.Shared.{faulted, gsr-of, gsr-byte, with-entry, with-gsr, with-ivr};
+ghost use Rattle.chip.specs.Shared.{faulted, gsr-of, gsr-byte, entry, with-entry, with-gsr, with-ivr};
 
 const F: u8 = 1 << 7;
 
@@ -52,11 +51,18 @@ impl Gsr {
 }
 
 impl Shared {
+    pub(crate) fn entry(self, i: usize) -> u8
+        ensures { λ r. ⌜ r ≡ entry self i ⌝ }
+    {
+        if i < 16 { self.table[i] } else { 0 }
+    }
+
     pub(crate) fn with_entry(mut self, i: usize, value: u8) -> Shared
-        requires { ⌜ i < 16 ⌝ }
         ensures { λ r. ⌜ r ≡ with-entry self i value ⌝ }
     {
-        self.table[i] = value;
+        if i < 16 {
+            self.table[i] = value;
+        }
         self
     }
 

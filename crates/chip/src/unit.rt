@@ -222,10 +222,9 @@ impl Unit {
     }
 
     pub(crate) fn ac(self, i: usize) -> u8
-        requires { ⌜ i < 9 ⌝ }
         ensures { λ r. ⌜ r ≡ ac self i ⌝ }
     {
-        self.accumulator[i].value
+        if i < 9 { self.accumulator[i].value } else { 0 }
     }
 
     pub(crate) fn word(self, i: usize) -> u16

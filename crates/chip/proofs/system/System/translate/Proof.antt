@@ -17,12 +17,15 @@ match-at-requires c κs =
 
 returns : tie.Need-returns
 unfolding translate translate-at
-returns c = rw (sym (c .before .before .before .before .in-system .ensures) ∙ c .before .before .i .given .1) (c .match-at .ensures)
+returns c =
+    rw (← c .before .before .before .before .before .entry .ensures, sym (c .before .before .before .before .in-system .ensures) ∙ c .before .before .i .given .1)
+    (c .match-at .ensures)
 
 returns-2 : tie.Need-returns-2
 unfolding translate translate-at
 returns-2 c =
     rw (
+      ← c .before .before .before .before .before .entry .ensures,
       sym (c .before .before .before .before .in-system .ensures) ∙ c .before .before .enum-told .given .1,
       c .granted .ensures,
       c .before .undefined .ensures,

@@ -1,5 +1,6 @@
 -- `Unit::segment` meets its contract. Assumes nothing.
 use borrow.Author.Needs.{needs}
+use Rattle.chip.proofs.Free.{free}
 use Rattle.chip.proofs.unit.Unit.segment.Statement.{statement}
 use Rattle.chip.proofs.unit.Unit.segment.Tie as tie
 
@@ -8,4 +9,4 @@ returns c = cc
 
 pub segment-spec : {M : Type 1} → statement M
 segment-spec =
-    tie.close (tie.spec (λ c κs. search needs) (λ c κs. search needs) (λ c κs. search needs) (λ c κs. search needs) (λ c κs. search needs) (λ c κs. search needs) (λ c κs. search needs) returns)
+    tie.close (tie.spec (λ c κs. search needs) (λ c κs. search needs) (λ c κs. search needs) (λ c κs. search needs) (λ c κs. search needs) free (λ c κs. search needs) returns)
