@@ -5,3 +5,4 @@ pub mod Numbers
 pub mod Each
 pub mod First
 pub mod Units
+pub mod Cases

@@ -13,3 +13,4 @@ pub mod Load
 pub mod Translation
 pub mod Acknowledge
 pub mod Register
+pub mod Cases

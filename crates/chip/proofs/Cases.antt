@@ -1,0 +1,22 @@
+-- The twelve worked cases, computed from the definitions. Assumes nothing.
+use mathlib.Core.Path.{_≡_, refl}
+use mathlib.Core.Bool.{true}
+use Rattle.masks.specs.Fields.{bit, field, every, alike, agree, clash, gate}
+use Rattle.chip.specs.Status.{raise, lower, clean, used, modified, disabled, rewritten}
+use Rattle.chip.specs.Descriptor.{matches, with-ssr, clashes}
+use Rattle.chip.specs.Unit.{with-accumulator, with-dp, with-rdp, with-l, with-rw}
+use Rattle.chip.specs.Shared.{with-entry, with-gsr, with-ivr}
+use Rattle.chip.specs.System.{with-units, with-shared, with-descriptor, each}
+use Rattle.chip.specs.Search.{first}
+use Rattle.chip.specs.Answer.{refused, granted}
+use Rattle.chip.specs.Reset.{unselected, fresh, start}
+use Rattle.chip.specs.Access.{fault, violation, undefined, match-at, translate-at, translate, access}
+use Rattle.chip.specs.Transfer.{transfer, write-status}
+use Rattle.chip.specs.Load.{send, prepare, load-at, load}
+use Rattle.chip.specs.Translation.{result-at, direct-translation}
+use Rattle.chip.specs.Register.{register-at, read, write-gsr, write, operate, register}
+use Rattle.chip.specs.Cases.{cases, all-hold}
+
+pub cases-hold : all-hold cases ≡ true
+unfolding bit field every alike agree clash gate raise lower clean used modified disabled rewritten matches with-ssr clashes with-accumulator with-dp with-rdp with-l with-rw with-entry with-gsr with-ivr with-units with-shared with-descriptor each first refused granted unselected fresh start fault violation undefined match-at translate-at translate access transfer write-status send prepare load-at load result-at direct-translation register-at read write-gsr write operate register
+cases-hold = refl
