@@ -3,9 +3,9 @@ use Prim.Native.Nat.{ℕ, _+_}
 use mathlib.Core.Path.{_≡_, ap}
 use mathlib.Core.List.{List}
 use lib.ListN.{set}
-use Rattle.chip.specs.Unit.{nothing}
+use Rattle.registers.specs.Unit.{nothing}
 use Rattle.chip.specs.System.{unit, with-units, each}
-use Rattle.chip.specs.declared.unit.Unit.{Unit}
+use Rattle.registers.specs.declared.unit.Unit.{Unit}
 use Rattle.chip.specs.declared.system.System.{System}
 use Rattle.chip.proofs.Each.{each-more}
 

@@ -1,8 +1,3 @@
-pub mod Status
-pub mod Descriptor
-pub mod Unit
-pub mod Change
-pub mod Shared
 pub mod System
 pub mod Search
 pub mod Answer

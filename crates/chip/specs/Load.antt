@@ -2,24 +2,17 @@
 use Prim.Native.Nat.{ℕ, _%_}
 use mathlib.Core.Bool.{Bool, not, _&&_, cond}
 use mathlib.Core.List.{List, [], _∷_}
-use Rattle.chip.specs.Descriptor.{enabled, collides, disable}
-use Rattle.chip.specs.Unit.{NO, LD, none, ac, write-ac, report, for-translation, for-load, consistent, segment}
+use Rattle.registers.specs.Descriptor.{enabled, collides, disable}
+use Rattle.registers.specs.Unit.{NO, LD, none, ac, write-ac, report, for-load, consistent, segment}
 use Rattle.chip.specs.System.{present, unit, descriptor, with-descriptor, in-each, in-all}
 use Rattle.chip.specs.Search.{first, found, in-system, in-unit}
 use Rattle.chip.specs.Transfer.{pointed, reading}
-use Rattle.chip.specs.declared.descriptor.Descriptor.{Descriptor}
-use Rattle.chip.specs.declared.unit.Unit.{Unit}
+use Rattle.registers.specs.declared.descriptor.Descriptor.{Descriptor}
+use Rattle.registers.specs.declared.unit.Unit.{Unit}
 use Rattle.chip.specs.declared.system.System.{System}
-use Rattle.chip.specs.declared.load.Bytes.{Bytes}
-use Rattle.chip.specs.declared.load.Bytes.the-variants.{Translation, Load}
 use Rattle.chip.specs.declared.search.Found.{Found}
 use Rattle.chip.specs.declared.search.Found.the-variants.{At, Nowhere}
 use Rattle.chip.specs.declared.transfer.Reading.{Reading}
-
--- the bytes that a direct translation and a load need, by name
-abbrev pub needed : Bytes → List ℕ
-needed Translation = for-translation
-needed Load = for-load
 
 -- 3.2.4: some unit's accumulator is not globally consistent in these bytes
 abbrev pub inconsistent : List ℕ → System → Bool

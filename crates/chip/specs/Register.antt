@@ -3,8 +3,8 @@ use Prim.Native.Nat.{ℕ, _-_, _/_, _%_}
 use mathlib.Core.Bool.{Bool, cond}
 use mathlib.Core.List.{[], _∷_}
 use lib.Dec.{eqb, ltb}
-use Rattle.chip.specs.Unit.{NO, ac, lsr, write-ac, write-dp, write-lsr, with-l}
-use Rattle.chip.specs.Shared.{entry, gsr-of, gsr-byte, with-entry, with-gsr, with-ivr}
+use Rattle.registers.specs.Unit.{NO, ac, lsr, write-ac, write-dp, write-lsr, with-l}
+use Rattle.registers.specs.Shared.{entry, gsr-of, gsr-byte, with-entry, with-gsr, with-ivr}
 use Rattle.chip.specs.System.{unit, with-shared, in-all}
 use Rattle.chip.specs.Search.{lip, idp}
 use Rattle.chip.specs.Answer.{granted, checked, miscounted, absent}

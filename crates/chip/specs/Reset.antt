@@ -3,13 +3,13 @@ use Prim.Native.Nat.{ℕ, _*_}
 use mathlib.Core.Bool.{Bool, false}
 use mathlib.Core.List.{List, [], _∷_}
 use lib.ListN.{replicate}
-use Rattle.chip.specs.Descriptor.{zeros}
-use Rattle.chip.specs.Unit.{NO, none, local, report}
+use Rattle.registers.specs.Descriptor.{zeros}
+use Rattle.registers.specs.Unit.{NO, none, local, report}
 use Rattle.chip.specs.System.{with-descriptor, in-all}
 use Rattle.chip.specs.Answer.{granted, checked, miscounted, absent}
-use Rattle.chip.specs.declared.descriptor.Descriptor.{Descriptor}
-use Rattle.chip.specs.declared.unit.Unit.{Unit}
-use Rattle.chip.specs.declared.shared.Shared.{Shared}
+use Rattle.registers.specs.declared.descriptor.Descriptor.{Descriptor}
+use Rattle.registers.specs.declared.unit.Unit.{Unit}
+use Rattle.registers.specs.declared.shared.Shared.{Shared}
 use Rattle.chip.specs.declared.system.System.{System}
 use Rattle.chip.specs.declared.reset.Selected.{Selected}
 use Rattle.chip.specs.declared.reset.Selected.the-variants as selected

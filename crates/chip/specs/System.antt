@@ -2,11 +2,11 @@
 use Prim.Native.Nat.{ℕ, suc, zero, min}
 use mathlib.Core.List.{List, [], _∷_}
 use lib.ListN.{getD, set}
-use Rattle.chip.specs.Descriptor.{zeros}
-use Rattle.chip.specs.Unit.{nothing}
-use Rattle.chip.specs.declared.descriptor.Descriptor.{Descriptor}
-use Rattle.chip.specs.declared.unit.Unit.{Unit}
-use Rattle.chip.specs.declared.shared.Shared.{Shared}
+use Rattle.registers.specs.Descriptor.{zeros}
+use Rattle.registers.specs.Unit.{nothing}
+use Rattle.registers.specs.declared.descriptor.Descriptor.{Descriptor}
+use Rattle.registers.specs.declared.unit.Unit.{Unit}
+use Rattle.registers.specs.declared.shared.Shared.{Shared}
 use Rattle.chip.specs.declared.system.System.{System}
 
 -- how many units there are. A count above six is refused before anything is done; it counts as six

@@ -1,8 +1,8 @@
 -- Segment status and transfer descriptor: handbook 4.6.2.3 and 4.6.2.4.
 use Prim.Native.Nat.{ℕ, _+_, _*_, _%_}
-use Rattle.chip.specs.Status.{rewritten}
-use Rattle.chip.specs.Descriptor.{with-ssr}
-use Rattle.chip.specs.Unit.{take}
+use Rattle.registers.specs.Status.{rewritten}
+use Rattle.registers.specs.Descriptor.{with-ssr}
+use Rattle.registers.specs.Unit.{take}
 use Rattle.chip.specs.System.{unit, descriptor, with-unit, with-descriptor}
 use Rattle.chip.specs.declared.system.System.{System}
 use Rattle.chip.specs.declared.transfer.Reading.{Reading}

@@ -8,10 +8,10 @@ use crate::answer::Outcome;
 use crate::answer::Refusal;
 use crate::search::Found;
 use crate::search::Sought;
-use crate::status;
 use crate::system::System;
-use crate::unit;
-use crate::unit::Change;
+use registers::status;
+use registers::unit;
+use registers::unit::Change;
 
 pub enum Cycle {
     Read,

@@ -1,14 +1,10 @@
 pub mod access;
 pub mod acknowledge;
 pub mod answer;
-pub mod descriptor;
 pub mod load;
 pub mod register;
 pub mod reset;
 pub mod search;
-pub mod shared;
-pub mod status;
 pub mod system;
 pub mod transfer;
 pub mod translation;
-pub mod unit;

@@ -1,44 +1,28 @@
 // Load descriptor (handbook 4.6.3.2).
 ghost use mathlib.Core.Path.{_≡_};
 ghost use Prim.Native.Nat.{_<_};
-ghost use Rattle.chip.specs.Unit.{consistent};
+ghost use Rattle.registers.specs.Unit.{needed};
 ghost use Rattle.chip.specs.System.{in-each};
-ghost use Rattle.chip.specs.Descriptor.{collides};
+ghost use Rattle.registers.specs.Descriptor.{collides};
 ghost use Rattle.chip.specs.Search.{in-unit};
-ghost use Rattle.chip.specs.Load.{needed, inconsistent, send, prepare, blame, collision, load-at, load};
-use crate::descriptor::Descriptor;
+ghost use Rattle.chip.specs.Load.{inconsistent, send, prepare, blame, collision, load-at, load};
 use crate::search::Found;
 use crate::search::Sought;
-use crate::status;
 use crate::system::System;
 use crate::transfer::Reading;
-use crate::unit;
-use crate::unit::Change;
-use crate::unit::Unit;
+use registers::descriptor::Descriptor;
+use registers::status;
+use registers::unit;
+use registers::unit::Bytes;
+use registers::unit::Change;
+use registers::unit::Unit;
 
-// The accumulator bytes that all units must have alike, for one operation or the other (3.2.4).
-pub enum Bytes {
-    Translation,
-    Load,
-}
-
-impl Unit {
-    fn consistent(self, bytes: Bytes) -> bool
-        ensures { λ r. ⌜ r ≡ consistent (needed bytes) self ⌝ }
-    {
-        match bytes {
-            Bytes::Translation => self.gat(),
-            Bytes::Load => self.gal(),
-        }
-    }
-
-    fn blame(self, found: Found) -> Unit
-        ensures { λ r. ⌜ r ≡ blame found self ⌝ }
-    {
-        match found {
-            Found::At(i) => self.report(unit::LD, (i % 32) as u8),
-            Found::Nowhere => self.report(unit::NO, unit::NONE),
-        }
+fn blame(unit: Unit, found: Found) -> Unit
+    ensures { λ r. ⌜ r ≡ blame found unit ⌝ }
+{
+    match found {
+        Found::At(i) => unit.report(unit::LD, (i % 32) as u8),
+        Found::Nowhere => unit.report(unit::NO, unit::NONE),
     }
 }
 
@@ -94,7 +78,7 @@ impl System {
         for k in 0..n {
             let found = self.in_unit(Sought::Clash(d), k);
             let unit = self.units[k];
-            self.units[k] = unit.blame(found);
+            self.units[k] = blame(unit, found);
         }
         self
     }

@@ -8,11 +8,11 @@ use crate::answer::Answer;
 use crate::answer::Outcome;
 use crate::answer::Refusal;
 use crate::search::Sought;
-use crate::shared::Gsr;
 use crate::system::System;
 use crate::transfer::Reading;
-use crate::unit;
-use crate::unit::Change;
+use registers::shared::Gsr;
+use registers::unit;
+use registers::unit::Change;
 
 pub enum Register {
     Ast(usize),

@@ -1,20 +1,20 @@
 // Start and reset (handbook 4.5.1).
 ghost use mathlib.Core.Path.{_≡_};
-ghost use Rattle.chip.specs.Descriptor.{zeros};
+ghost use Rattle.registers.specs.Descriptor.{zeros};
 ghost use Rattle.chip.specs.Reset.{blank, uninitialized, unselected, identity, start, reset};
 use crate::answer;
 use crate::answer::Answer;
 use crate::answer::Outcome;
 use crate::answer::Refusal;
-use crate::descriptor::Descriptor;
-use crate::shared::Gsr;
-use crate::shared::Shared;
-use crate::status;
 use crate::system::System;
-use crate::unit;
-use crate::unit::Byte;
-use crate::unit::Change;
-use crate::unit::Unit;
+use registers::descriptor::Descriptor;
+use registers::shared::Gsr;
+use registers::shared::Shared;
+use registers::status;
+use registers::unit;
+use registers::unit::Byte;
+use registers::unit::Change;
+use registers::unit::Unit;
 
 // The unit that is chip-selected during reset, if any.
 pub enum Selected {

@@ -3,9 +3,9 @@ ghost use mathlib.Core.Path.{_≡_};
 ghost use Prim.Native.Nat.{_+_, _≤_, _<_};
 ghost use Rattle.chip.specs.System.{descriptor};
 ghost use Rattle.chip.specs.Search.{first, found, number-of, answers, in-system, in-unit, irq};
-use crate::descriptor::Descriptor;
 use crate::system::System;
-use crate::unit;
+use registers::descriptor::Descriptor;
+use registers::unit;
 
 pub enum Sought {
     Match(u16, u8),
@@ -18,14 +18,14 @@ pub enum Found {
     Nowhere,
 }
 
-impl Descriptor {
-    pub(crate) fn answers(self, sought: Sought) -> bool
-        ensures { λ r. ⌜ r ≡ answers sought self ⌝ }
+impl Sought {
+    fn answers(self, e: Descriptor) -> bool
+        ensures { λ r. ⌜ r ≡ answers self e ⌝ }
     {
-        match sought {
-            Sought::Match(page, number) => self.matches(page, number),
-            Sought::Clash(d) => self.enabled() && d.clashes(self),
-            Sought::Pending => self.pending(),
+        match self {
+            Sought::Match(page, number) => e.matches(page, number),
+            Sought::Clash(d) => e.enabled() && d.clashes(e),
+            Sought::Pending => e.pending(),
         }
     }
 }
@@ -57,7 +57,7 @@ impl System {
     {
         for i in from..from + n {
             let d = self.descriptors[i];
-            if d.answers(sought) {
+            if sought.answers(d) {
                 return Found::At(i);
             }
         }

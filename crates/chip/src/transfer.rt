@@ -2,8 +2,8 @@
 ghost use mathlib.Core.Path.{_≡_};
 ghost use Prim.Native.Nat.{_<_};
 ghost use Rattle.chip.specs.Transfer.{pointed, transfer, write-status};
-use crate::status;
 use crate::system::System;
+use registers::status;
 
 // The byte that a read answers, and the whole system after it.
 pub struct Reading {

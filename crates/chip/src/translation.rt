@@ -2,13 +2,13 @@
 ghost use mathlib.Core.Path.{_≡_};
 ghost use Prim.Native.Nat.{_<_};
 ghost use Rattle.chip.specs.Translation.{result-at, direct-translation};
-use crate::load::Bytes;
 use crate::search::Found;
 use crate::search::Sought;
 use crate::system::System;
 use crate::transfer::Reading;
-use crate::unit;
-use crate::unit::Change;
+use registers::unit;
+use registers::unit::Bytes;
+use registers::unit::Change;
 
 impl System {
     fn translated_at(self, i: usize, page: u16) -> Reading
@@ -28,7 +28,7 @@ impl System {
     {
         let t = self.prepare(Bytes::Translation, m);
         let unit = t.unit(m);
-        let page = unit.word(0);
+        let page = unit.page();
         match t.in_system(Sought::Match(page, unit.ac(6))) {
             Found::At(i) => t.translated_at(i, page),
             Found::Nowhere => {

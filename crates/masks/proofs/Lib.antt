@@ -1,3 +1,4 @@
 pub mod Bits
 pub mod Flags
 pub mod Laws
+pub mod Free

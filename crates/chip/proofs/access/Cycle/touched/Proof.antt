@@ -1,6 +1,6 @@
 -- `Cycle::touched` meets its contract. Assumes nothing.
 use borrow.Author.Needs.{needs}
-use Rattle.chip.proofs.Free.{free}
+use Rattle.masks.proofs.Free.{free}
 use Rattle.chip.proofs.access.Cycle.touched.Statement.{statement}
 use Rattle.chip.proofs.access.Cycle.touched.Tie as tie
 

@@ -1,6 +1,6 @@
 -- `Answer::values` meets its contract: what a kind of answer does not have is zero. Assumes nothing.
 use borrow.Author.Needs.{needs}
-use Rattle.chip.proofs.Free.{free}
+use Rattle.masks.proofs.Free.{free}
 use Rattle.chip.proofs.answer.Answer.values.Statement.{statement}
 use Rattle.chip.proofs.answer.Answer.values.Tie as tie
 

@@ -3,7 +3,7 @@ use mathlib.Core.Path.{_≡_, sym, ap, _∙_}
 use mathlib.Core.Bool.{not}
 use borrow.Author.Tests.{lt-ltb, le-ltb}
 use Rattle.chip.specs.Acknowledge.{acknowledge}
-use Rattle.chip.proofs.Free.{free}
+use Rattle.masks.proofs.Free.{free}
 use Rattle.chip.proofs.system.System.acknowledge.Statement.{statement}
 use Rattle.chip.proofs.system.System.acknowledge.Tie as tie
 

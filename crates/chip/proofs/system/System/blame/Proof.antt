@@ -2,14 +2,14 @@
 use mathlib.Core.Path.{_≡_, refl, ap, _∙_}
 use native.Mathlib.Omega.{arith}
 use Prim.Native.Nat.{ℕ, _≤_, _-_}
-use Rattle.chip.specs.Descriptor.{collides}
+use Rattle.registers.specs.Descriptor.{collides}
 use Rattle.chip.specs.System.{unit, each, with-units}
 use Rattle.chip.specs.Search.{in-unit}
 use Rattle.chip.specs.Load.{blame}
 use Rattle.chip.specs.declared.search.Found.{Found}
 use Rattle.chip.specs.declared.system.System.{System}
 use Rattle.chip.proofs.Units.{next}
-use Rattle.chip.proofs.Free.{free}
+use Rattle.masks.proofs.Free.{free}
 use Rattle.chip.proofs.system.System.blame.Statement.{statement}
 use Rattle.chip.proofs.system.System.blame.Tie as tie
 

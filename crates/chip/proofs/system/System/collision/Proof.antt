@@ -2,7 +2,7 @@
 use mathlib.Core.Path.{ap, _∙_}
 use Rattle.masks.proofs.Flags.{and-taken, and-left}
 use Rattle.chip.specs.Search.{found}
-use Rattle.chip.proofs.Free.{free}
+use Rattle.masks.proofs.Free.{free}
 use Rattle.chip.proofs.system.System.collision.Statement.{statement}
 use Rattle.chip.proofs.system.System.collision.Tie as tie
 

@@ -4,7 +4,7 @@ use mathlib.Core.Path.{_≡_, sym, _∙_}
 use native.Mathlib.Omega.{arith}
 use Rattle.chip.specs.Translation.{result-at, direct-translation}
 use Rattle.chip.proofs.First.{first-found}
-use Rattle.chip.proofs.Free.{free}
+use Rattle.masks.proofs.Free.{free}
 use Rattle.chip.proofs.system.System.direct_translation.Statement.{statement}
 use Rattle.chip.proofs.system.System.direct_translation.Tie as tie
 
@@ -20,7 +20,7 @@ returns c =
     rw (
       ← matched .before .before .before .before .prepare .ensures,
       ← matched .before .before .before .unit .ensures,
-      ← matched .before .before .word .ensures,
+      ← matched .before .before .page .ensures,
       ← matched .before .ac .ensures,
       sym (matched .in-system .ensures) ∙ c .before .before .i .given .1,
     )
@@ -33,7 +33,7 @@ returns-2 c =
     rw (
       ← matched .before .before .before .before .prepare .ensures,
       ← matched .before .before .before .unit .ensures,
-      ← matched .before .before .word .ensures,
+      ← matched .before .before .page .ensures,
       ← matched .before .ac .ensures,
       sym (matched .in-system .ensures) ∙ c .before .enum-told .given .1,
       c .in-all .ensures,

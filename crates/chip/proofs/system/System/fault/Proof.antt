@@ -1,6 +1,6 @@
 -- `System::fault` meets its contract. Assumes nothing.
 use Rattle.chip.specs.Access.{fault}
-use Rattle.chip.proofs.Free.{free}
+use Rattle.masks.proofs.Free.{free}
 use Rattle.chip.proofs.system.System.fault.Statement.{statement}
 use Rattle.chip.proofs.system.System.fault.Tie as tie
 

@@ -6,7 +6,7 @@ use Prim.Native.Nat.{ℕ, _+_, _≤_, _<_, _-_}
 use Rattle.chip.specs.System.{descriptor}
 use Rattle.chip.specs.Search.{answers}
 use Rattle.chip.proofs.First.{first-at, first-nowhere, one-more}
-use Rattle.chip.proofs.Free.{free}
+use Rattle.masks.proofs.Free.{free}
 use Rattle.chip.proofs.system.System.first.Statement.{statement}
 use Rattle.chip.proofs.system.System.first.Tie as tie
 

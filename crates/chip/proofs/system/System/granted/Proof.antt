@@ -1,6 +1,6 @@
 -- `System::granted` meets its contract. Assumes nothing.
 use Rattle.chip.specs.Answer.{granted}
-use Rattle.chip.proofs.Free.{free}
+use Rattle.masks.proofs.Free.{free}
 use Rattle.chip.proofs.system.System.granted.Statement.{statement}
 use Rattle.chip.proofs.system.System.granted.Tie as tie
 

@@ -4,13 +4,13 @@ use mathlib.Core.Path.{_≡_, refl, ap, _∙_}
 use mathlib.Core.List.{List}
 use native.Mathlib.Omega.{arith}
 use Prim.Native.Nat.{ℕ, _≤_, _-_}
-use Rattle.chip.specs.Change.{changed}
-use Rattle.chip.specs.Unit.{nothing}
+use Rattle.registers.specs.Change.{changed}
+use Rattle.registers.specs.Unit.{nothing}
 use Rattle.chip.specs.System.{each, with-units}
-use Rattle.chip.specs.declared.unit.Unit.{Unit}
+use Rattle.registers.specs.declared.unit.Unit.{Unit}
 use Rattle.chip.specs.declared.system.System.{System}
 use Rattle.chip.proofs.Units.{next}
-use Rattle.chip.proofs.Free.{free}
+use Rattle.masks.proofs.Free.{free}
 use Rattle.chip.proofs.system.System.in_all.Statement.{statement}
 use Rattle.chip.proofs.system.System.in_all.Tie as tie
 

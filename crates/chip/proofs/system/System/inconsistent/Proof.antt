@@ -3,12 +3,11 @@ use mathlib.Core.Path.{_≡_, sym, ap, _∙_}
 use mathlib.Core.Bool.{not, false}
 use native.Mathlib.Omega.{arith}
 use Prim.Native.Nat.{ℕ, _≤_, _<_, _-_}
-use Rattle.chip.specs.Unit.{consistent}
+use Rattle.registers.specs.Unit.{consistent, needed}
 use Rattle.chip.specs.System.{unit}
 use Rattle.chip.specs.Search.{found}
-use Rattle.chip.specs.Load.{needed}
 use Rattle.chip.proofs.First.{first-at, first-nowhere, one-more}
-use Rattle.chip.proofs.Free.{free}
+use Rattle.masks.proofs.Free.{free}
 use Rattle.chip.proofs.system.System.inconsistent.Statement.{statement}
 use Rattle.chip.proofs.system.System.inconsistent.Tie as tie
 

@@ -3,7 +3,7 @@ use borrow.Author.Needs.{needs}
 use mathlib.Core.Path.{refl, ap, _∙_}
 use Rattle.masks.proofs.Flags.{and-taken}
 use Rattle.chip.specs.Search.{found}
-use Rattle.chip.proofs.Free.{free}
+use Rattle.masks.proofs.Free.{free}
 use Rattle.chip.proofs.system.System.irq.Statement.{statement}
 use Rattle.chip.proofs.system.System.irq.Tie as tie
 

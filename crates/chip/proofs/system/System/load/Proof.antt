@@ -1,7 +1,7 @@
 -- `System::load` meets its contract. Assumes nothing.
 use Rattle.chip.specs.Load.{load}
 use borrow.Author.Needs.{needs}
-use Rattle.chip.proofs.Free.{free}
+use Rattle.masks.proofs.Free.{free}
 use Rattle.chip.proofs.system.System.load.Statement.{statement}
 use Rattle.chip.proofs.system.System.load.Tie as tie
 

@@ -1,7 +1,7 @@
 -- `System::load_at` meets its contract: by whether d collides, once the place is disabled. Assumes nothing.
 use borrow.Author.Needs.{needs}
 use Rattle.chip.specs.Load.{load-at}
-use Rattle.chip.proofs.Free.{free}
+use Rattle.masks.proofs.Free.{free}
 use Rattle.chip.proofs.system.System.load_at.Statement.{statement}
 use Rattle.chip.proofs.system.System.load_at.Tie as tie
 

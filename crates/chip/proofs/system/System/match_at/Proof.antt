@@ -1,7 +1,7 @@
 -- `System::match_at` meets its contract: a write to a protected segment is a violation. Assumes nothing.
 use borrow.Author.Needs.{needs}
 use Rattle.chip.specs.Access.{match-at}
-use Rattle.chip.proofs.Free.{free}
+use Rattle.masks.proofs.Free.{free}
 use Rattle.chip.proofs.system.System.match_at.Statement.{statement}
 use Rattle.chip.proofs.system.System.match_at.Tie as tie
 

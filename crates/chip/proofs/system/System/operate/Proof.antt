@@ -1,7 +1,7 @@
 -- `System::operate` meets its contract: a read answers its byte, a write is done. Assumes nothing.
 use borrow.Author.Needs.{needs}
 use Rattle.chip.specs.Register.{operate}
-use Rattle.chip.proofs.Free.{free}
+use Rattle.masks.proofs.Free.{free}
 use Rattle.chip.proofs.system.System.operate.Statement.{statement}
 use Rattle.chip.proofs.system.System.operate.Tie as tie
 

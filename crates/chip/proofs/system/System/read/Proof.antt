@@ -1,7 +1,7 @@
 -- `System::read` meets its contract: register by register. Assumes nothing.
 use borrow.Author.Needs.{needs}
 use Rattle.chip.specs.Register.{read}
-use Rattle.chip.proofs.Free.{free}
+use Rattle.masks.proofs.Free.{free}
 use Rattle.chip.proofs.system.System.read.Statement.{statement}
 use Rattle.chip.proofs.system.System.read.Tie as tie
 

@@ -3,8 +3,8 @@ use mathlib.Core.Path.{_≡_, sym, _∙_}
 use native.Mathlib.Omega.{arith}
 use borrow.Author.Tests.{lt-ltb, le-ltb}
 use Rattle.chip.specs.Register.{register}
-use Rattle.chip.proofs.Numbers.{well-counted}
-use Rattle.chip.proofs.Free.{free}
+use Rattle.chip.proofs.Counts.{well-counted}
+use Rattle.masks.proofs.Free.{free}
 use Rattle.chip.proofs.system.System.register.Statement.{statement}
 use Rattle.chip.proofs.system.System.register.Tie as tie
 

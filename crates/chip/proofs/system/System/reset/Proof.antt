@@ -1,6 +1,6 @@
 -- `System::reset` meets its contract. Assumes nothing.
 use Rattle.chip.specs.Reset.{reset}
-use Rattle.chip.proofs.Free.{free}
+use Rattle.masks.proofs.Free.{free}
 use Rattle.chip.proofs.system.System.reset.Statement.{statement}
 use Rattle.chip.proofs.system.System.reset.Tie as tie
 

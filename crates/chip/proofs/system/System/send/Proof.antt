@@ -1,7 +1,7 @@
 -- `System::send` meets its contract. Assumes nothing.
 use Rattle.chip.specs.Load.{send}
 use borrow.Author.Needs.{needs}
-use Rattle.chip.proofs.Free.{free}
+use Rattle.masks.proofs.Free.{free}
 use Rattle.chip.proofs.system.System.send.Statement.{statement}
 use Rattle.chip.proofs.system.System.send.Tie as tie
 

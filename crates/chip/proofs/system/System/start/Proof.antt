@@ -4,8 +4,8 @@ use mathlib.Core.Path.{_≡_, sym, _∙_}
 use native.Mathlib.Omega.{arith}
 use borrow.Author.Tests.{lt-ltb, le-ltb}
 use Rattle.chip.specs.Reset.{fresh, start}
-use Rattle.chip.proofs.Numbers.{well-counted}
-use Rattle.chip.proofs.Free.{free}
+use Rattle.chip.proofs.Counts.{well-counted}
+use Rattle.masks.proofs.Free.{free}
 use Rattle.chip.proofs.system.System.start.Statement.{statement}
 use Rattle.chip.proofs.system.System.start.Tie as tie
 

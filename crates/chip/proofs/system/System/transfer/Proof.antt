@@ -1,7 +1,7 @@
 -- `System::transfer` meets its contract. Assumes nothing.
 use Rattle.chip.specs.Transfer.{transfer}
 use borrow.Author.Needs.{needs}
-use Rattle.chip.proofs.Free.{free}
+use Rattle.masks.proofs.Free.{free}
 use Rattle.chip.proofs.system.System.transfer.Statement.{statement}
 use Rattle.chip.proofs.system.System.transfer.Tie as tie
 

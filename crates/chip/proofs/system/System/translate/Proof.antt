@@ -6,7 +6,7 @@ use Rattle.chip.specs.Search.{matching}
 use Rattle.chip.specs.Access.{translate, translate-at}
 use Rattle.chip.specs.declared.search.Found.the-variants.{At, Nowhere}
 use Rattle.chip.proofs.First.{first-found}
-use Rattle.chip.proofs.Free.{free}
+use Rattle.masks.proofs.Free.{free}
 use Rattle.chip.proofs.system.System.translate.Statement.{statement}
 use Rattle.chip.proofs.system.System.translate.Tie as tie
 

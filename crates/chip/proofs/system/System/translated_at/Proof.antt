@@ -1,7 +1,7 @@
 -- `System::translated_at` meets its contract. Assumes nothing.
 use Rattle.chip.specs.Translation.{result-at}
 use borrow.Author.Needs.{needs}
-use Rattle.chip.proofs.Free.{free}
+use Rattle.masks.proofs.Free.{free}
 use Rattle.chip.proofs.system.System.translated_at.Statement.{statement}
 use Rattle.chip.proofs.system.System.translated_at.Tie as tie
 

@@ -1,6 +1,6 @@
 -- `System::undefined` meets its contract. Assumes nothing.
 use Rattle.chip.specs.Access.{undefined}
-use Rattle.chip.proofs.Free.{free}
+use Rattle.masks.proofs.Free.{free}
 use Rattle.chip.proofs.system.System.undefined.Statement.{statement}
 use Rattle.chip.proofs.system.System.undefined.Tie as tie
 

@@ -1,6 +1,6 @@
 -- `System::unselected` meets its contract. Assumes nothing.
 use Rattle.chip.specs.Reset.{unselected}
-use Rattle.chip.proofs.Free.{free}
+use Rattle.masks.proofs.Free.{free}
 use Rattle.chip.proofs.system.System.unselected.Statement.{statement}
 use Rattle.chip.proofs.system.System.unselected.Tie as tie
 

@@ -1,7 +1,7 @@
 -- `System::violation` meets its contract. Assumes nothing.
 use Rattle.chip.specs.Access.{violation}
 use borrow.Author.Needs.{needs}
-use Rattle.chip.proofs.Free.{free}
+use Rattle.masks.proofs.Free.{free}
 use Rattle.chip.proofs.system.System.violation.Statement.{statement}
 use Rattle.chip.proofs.system.System.violation.Tie as tie
 

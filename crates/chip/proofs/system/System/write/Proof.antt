@@ -1,7 +1,7 @@
 -- `System::write` meets its contract: register by register. Assumes nothing.
 use borrow.Author.Needs.{needs}
 use Rattle.chip.specs.Register.{write}
-use Rattle.chip.proofs.Free.{free}
+use Rattle.masks.proofs.Free.{free}
 use Rattle.chip.proofs.system.System.write.Statement.{statement}
 use Rattle.chip.proofs.system.System.write.Tie as tie
 

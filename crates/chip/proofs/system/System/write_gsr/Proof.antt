@@ -1,8 +1,8 @@
 -- `System::write_gsr` meets its contract: clearing F clears L4-L7. Assumes nothing.
 use mathlib.Core.Path.{_≡_, sym, ap, _∙_}
 use Rattle.chip.specs.Register.{write-gsr}
-use Rattle.chip.specs.declared.shared.Gsr.{Gsr}
-use Rattle.chip.proofs.Free.{free}
+use Rattle.registers.specs.declared.shared.Gsr.{Gsr}
+use Rattle.masks.proofs.Free.{free}
 use Rattle.chip.proofs.system.System.write_gsr.Statement.{statement}
 use Rattle.chip.proofs.system.System.write_gsr.Tie as tie
 

@@ -1,7 +1,7 @@
 -- `System::write_status` meets its contract. Assumes nothing.
 use Rattle.chip.specs.Transfer.{write-status}
 use borrow.Author.Needs.{needs}
-use Rattle.chip.proofs.Free.{free}
+use Rattle.masks.proofs.Free.{free}
 use Rattle.chip.proofs.system.System.write_status.Statement.{statement}
 use Rattle.chip.proofs.system.System.write_status.Tie as tie
 

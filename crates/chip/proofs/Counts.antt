@@ -1,0 +1,15 @@
+-- A count that is not refused. Assumes nothing.
+use Prim.Native.Nat.{ℕ, _≤_}
+use mathlib.Core.Path.{_≡_}
+use mathlib.Core.Bool.{Bool, true, false, _||_}
+use native.Mathlib.Omega.{arith}
+use lib.Dec.{eqb, ltb}
+use borrow.Author.Tests.{ltb-false}
+use Rattle.chip.specs.Answer.{miscounted}
+
+right : (a b : Bool) → a || b ≡ false → b ≡ false
+right false b e = e
+right true b e = absurd (let z : _≡_ {A = ℕ} 0 1 = cc in omega arith)
+
+pub well-counted : (n : ℕ) → miscounted n ≡ false → n ≤ 6
+well-counted n e = ltb-false 6 n (right (eqb n 0) (ltb 6 n) e)

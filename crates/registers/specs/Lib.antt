@@ -1,0 +1,5 @@
+pub mod Status
+pub mod Descriptor
+pub mod Unit
+pub mod Change
+pub mod Shared

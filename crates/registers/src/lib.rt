@@ -1,0 +1,4 @@
+pub mod descriptor;
+pub mod shared;
+pub mod status;
+pub mod unit;

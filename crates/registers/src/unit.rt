@@ -1,0 +1,272 @@
+// The registers that a unit has of its own: accumulator, descriptor pointers, local status (handbook 3.2.2 to 3.2.6).
+ghost use mathlib.Core.Path.{_≡_};
+ghost use Prim.Native.Nat.{_+_, _*_, _/_, _%_, _<_};
+ghost use Rattle.registers.specs.Unit.{
+  global,
+  local,
+  ac,
+  with-dp,
+  with-rdp,
+  with-l,
+  with-rw,
+  with-byte,
+  report,
+  latch,
+  take,
+  translated,
+  for-translation,
+  for-load,
+  needed,
+  consistent,
+  lsr,
+  word,
+  segment,
+};
+ghost use Rattle.registers.specs.Change.{changed};
+use crate::descriptor::Descriptor;
+use crate::status;
+
+// 3.2.4: what the last event was, in L7 to L4.
+pub const NO: u8 = 0b0000;
+
+pub const DT: u8 = 0b1000;
+
+pub const LD: u8 = 0b1001;
+
+pub const USA: u8 = 0b1010;
+
+pub const WV: u8 = 0b1100;
+
+// 3.2.6, 3.2.7: no valid result, no valid interrupt.
+pub const NONE: u8 = 0x80;
+
+const RW: u8 = 1 << 3;
+
+// A byte of the accumulator, and whether it was last modified as a result of a global write (3.2.4).
+pub struct Byte {
+    pub value: u8,
+    pub global: bool,
+}
+
+pub struct Unit {
+    pub accumulator: [Byte; 9],
+    pub dp: u8,
+    pub rdp: u8,
+    pub l: u8,
+    pub rw: bool,
+}
+
+// The accumulator bytes that all units must have alike, for one operation or the other (3.2.4).
+pub enum Bytes {
+    Translation,
+    Load,
+}
+
+// What an event does to every unit alike.
+pub enum Change {
+    Ac(usize, u8),
+    Dp(u8),
+    Lsr(u8),
+    L(u8),
+    Rw(bool),
+    Latch(u16, u8),
+    Report(u8, u8),
+}
+
+fn high(word: u16) -> u8
+    ensures { λ r. ⌜ r ≡ word / 256 ⌝ }
+{
+    (word / 256) as u8
+}
+
+fn low(word: u16) -> u8
+    ensures { λ r. ⌜ r ≡ word % 256 ⌝ }
+{
+    (word % 256) as u8
+}
+
+fn join(high: u8, low: u8) -> u16
+    ensures { λ r. ⌜ r ≡ 256 * high + low ⌝ }
+{
+    256 * (high as u16) + low as u16
+}
+
+fn local(value: u8) -> Byte
+    ensures { λ r. ⌜ r ≡ local value ⌝ }
+{
+    Byte {
+        value,
+        global: false,
+    }
+}
+
+impl Unit {
+    pub fn with_byte(mut self, i: usize, byte: Byte) -> Unit
+        ensures { λ r. ⌜ r ≡ with-byte self i byte ⌝ }
+    {
+        if i < 9 {
+            self.accumulator[i] = byte;
+        }
+        self
+    }
+
+    pub fn with_dp(mut self, dp: u8) -> Unit
+        ensures { λ r. ⌜ r ≡ with-dp self dp ⌝ }
+    {
+        self.dp = dp;
+        self
+    }
+
+    pub fn with_rdp(mut self, rdp: u8) -> Unit
+        ensures { λ r. ⌜ r ≡ with-rdp self rdp ⌝ }
+    {
+        self.rdp = rdp;
+        self
+    }
+
+    pub fn with_l(mut self, l: u8) -> Unit
+        ensures { λ r. ⌜ r ≡ with-l self l ⌝ }
+    {
+        self.l = l;
+        self
+    }
+
+    pub fn with_rw(mut self, rw: bool) -> Unit
+        ensures { λ r. ⌜ r ≡ with-rw self rw ⌝ }
+    {
+        self.rw = rw;
+        self
+    }
+
+    pub fn report(self, l: u8, rdp: u8) -> Unit
+        ensures { λ r. ⌜ r ≡ report l rdp self ⌝ }
+    {
+        self.with_l(l).with_rdp(rdp)
+    }
+
+    // 4.5.3.3.
+    pub fn latch(self, page: u16, number: u8) -> Unit
+        ensures { λ r. ⌜ r ≡ latch page number self ⌝ }
+    {
+        self.with_byte(0, local(high(page)))
+            .with_byte(1, local(low(page)))
+            .with_byte(6, local(number))
+    }
+
+    // 4.6.2.3.
+    pub fn take(mut self, d: Descriptor) -> Unit
+        ensures { λ r. ⌜ r ≡ take d self ⌝ }
+    {
+        let accumulator = [
+            local(high(d.lba)),
+            local(low(d.lba)),
+            local(high(d.lam)),
+            local(low(d.lam)),
+            local(high(d.pba)),
+            local(low(d.pba)),
+            local(d.asn),
+            local(d.ssr),
+            local(d.asm),
+        ];
+        self.accumulator = accumulator;
+        self
+    }
+
+    // 4.6.3.3.
+    pub fn translated(self, page: u16, number: u8) -> Unit
+        ensures { λ r. ⌜ r ≡ translated page number self ⌝ }
+    {
+        self.with_byte(4, local(high(page)))
+            .with_byte(5, local(low(page)))
+            .with_dp(number)
+            .report(DT, number)
+    }
+
+    pub fn change(self, change: Change) -> Unit
+        ensures { λ r. ⌜ r ≡ changed change self ⌝ }
+    {
+        match change {
+            Change::Ac(i, value) => self.with_byte(
+                i,
+                Byte {
+                    value,
+                    global: true,
+                },
+            ),
+            Change::Dp(value) => self.with_dp(value % 32),
+            Change::Lsr(value) => self.with_l(value / 16).with_rw(value & RW != 0),
+            Change::L(l) => self.with_l(l),
+            Change::Rw(rw) => self.with_rw(rw),
+            Change::Latch(page, number) => self.latch(page, number),
+            Change::Report(l, rdp) => self.report(l, rdp),
+        }
+    }
+
+    pub fn consistent(self, bytes: Bytes) -> bool
+        ensures { λ r. ⌜ r ≡ consistent (needed bytes) self ⌝ }
+    {
+        match bytes {
+            Bytes::Translation => self.gat(),
+            Bytes::Load => self.gal(),
+        }
+    }
+
+    // 3.2.4: GAT.
+    pub fn gat(self) -> bool
+        ensures { λ r. ⌜ r ≡ consistent for-translation self ⌝ }
+    {
+        let a = self.accumulator;
+        a[0].global & a[1].global & a[6].global
+    }
+
+    // 3.2.4: GAL.
+    pub fn gal(self) -> bool
+        ensures { λ r. ⌜ r ≡ consistent for-load self ⌝ }
+    {
+        let a = self.accumulator;
+        a[0].global & a[1].global & a[2].global & a[3].global & a[6].global & a[8].global
+    }
+
+    pub fn lsr(self, lip: bool) -> u8
+        ensures { λ r. ⌜ r ≡ lsr self lip ⌝ }
+    {
+        16 * (self.l % 16)
+            + 8 * (self.rw as u8)
+            + 4 * (self.gat() as u8)
+            + 2 * (self.gal() as u8)
+            + lip as u8
+    }
+
+    pub fn ac(self, i: usize) -> u8
+        ensures { λ r. ⌜ r ≡ ac self i ⌝ }
+    {
+        if i < 9 { self.accumulator[i].value } else { 0 }
+    }
+
+    fn word(self, i: usize) -> u16
+        requires { ⌜ i < 8 ⌝ }
+        ensures { λ r. ⌜ r ≡ word self i ⌝ }
+    {
+        join(self.ac(i), self.ac(i + 1))
+    }
+
+    // 4.6.3.3: the logical address to be translated.
+    pub fn page(self) -> u16
+        ensures { λ r. ⌜ r ≡ word self 0 ⌝ }
+    {
+        self.word(0)
+    }
+
+    pub fn segment(self) -> Descriptor
+        ensures { λ r. ⌜ r ≡ segment self ⌝ }
+    {
+        Descriptor {
+            lba: self.word(0),
+            lam: self.word(2),
+            pba: self.word(4),
+            asn: self.ac(6),
+            ssr: status::clean(self.ac(7)),
+            asm: self.ac(8),
+        }
+    }
+}
