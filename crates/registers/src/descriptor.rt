@@ -10,6 +10,7 @@ ghost use Rattle.registers.specs.Descriptor.{
   physical-page,
   with-ssr,
   clashes,
+  bytes,
 };
 use crate::status;
 use masks::byte;
@@ -80,6 +81,23 @@ impl Descriptor {
         ensures { λ r. ⌜ r ≡ physical-page self page ⌝ }
     {
         word::gate(self.lam, page, self.pba)
+    }
+
+    // Table 3-1.
+    pub fn bytes(self) -> [u8; 9]
+        ensures { λ r. ⌜ r ≡ bytes self ⌝ }
+    {
+        [
+            (self.lba / 256) as u8,
+            (self.lba % 256) as u8,
+            (self.lam / 256) as u8,
+            (self.lam % 256) as u8,
+            (self.pba / 256) as u8,
+            (self.pba % 256) as u8,
+            self.asn,
+            self.ssr,
+            self.asm,
+        ]
     }
 
     // 4.6.3.2. E counts as set in both: a load asks before it enables.

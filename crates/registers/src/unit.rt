@@ -1,6 +1,6 @@
 // The registers that a unit has of its own: accumulator, descriptor pointers, local status (handbook 3.2.2 to 3.2.6).
 ghost use mathlib.Core.Path.{_≡_};
-ghost use Prim.Native.Nat.{_+_, _*_, _/_, _%_, _<_};
+ghost use Prim.Native.Nat.{_+_, _*_, _<_};
 ghost use Rattle.registers.specs.Unit.{
   global,
   local,
@@ -73,18 +73,6 @@ pub enum Change {
     Report(u8, u8),
 }
 
-fn high(word: u16) -> u8
-    ensures { λ r. ⌜ r ≡ word / 256 ⌝ }
-{
-    (word / 256) as u8
-}
-
-fn low(word: u16) -> u8
-    ensures { λ r. ⌜ r ≡ word % 256 ⌝ }
-{
-    (word % 256) as u8
-}
-
 fn join(high: u8, low: u8) -> u16
     ensures { λ r. ⌜ r ≡ 256 * high + low ⌝ }
 {
@@ -148,8 +136,8 @@ impl Unit {
     pub fn latch(self, page: u16, number: u8) -> Unit
         ensures { λ r. ⌜ r ≡ latch page number self ⌝ }
     {
-        self.with_byte(0, local(high(page)))
-            .with_byte(1, local(low(page)))
+        self.with_byte(0, local((page / 256) as u8))
+            .with_byte(1, local((page % 256) as u8))
             .with_byte(6, local(number))
     }
 
@@ -157,16 +145,17 @@ impl Unit {
     pub fn take(mut self, d: Descriptor) -> Unit
         ensures { λ r. ⌜ r ≡ take d self ⌝ }
     {
+        let b = d.bytes();
         let accumulator = [
-            local(high(d.lba)),
-            local(low(d.lba)),
-            local(high(d.lam)),
-            local(low(d.lam)),
-            local(high(d.pba)),
-            local(low(d.pba)),
-            local(d.asn),
-            local(d.ssr),
-            local(d.asm),
+            local(b[0]),
+            local(b[1]),
+            local(b[2]),
+            local(b[3]),
+            local(b[4]),
+            local(b[5]),
+            local(b[6]),
+            local(b[7]),
+            local(b[8]),
         ];
         self.accumulator = accumulator;
         self
@@ -176,8 +165,8 @@ impl Unit {
     pub fn translated(self, page: u16, number: u8) -> Unit
         ensures { λ r. ⌜ r ≡ translated page number self ⌝ }
     {
-        self.with_byte(4, local(high(page)))
-            .with_byte(5, local(low(page)))
+        self.with_byte(4, local((page / 256) as u8))
+            .with_byte(5, local((page % 256) as u8))
             .with_dp(number)
             .report(DT, number)
     }

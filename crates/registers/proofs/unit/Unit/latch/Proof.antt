@@ -1,11 +1,12 @@
 -- `Unit::latch` meets its contract. Assumes nothing.
+use borrow.Author.Needs.{needs}
 use Rattle.masks.proofs.Free.{free}
 use Rattle.registers.proofs.unit.Unit.latch.Statement.{statement}
 use Rattle.registers.proofs.unit.Unit.latch.Tie as tie
 
 returns : tie.Need-returns
-returns c = cc
+returns c = rw (c .with-byte3 .ensures, c .before .local3 .ensures, c .before .before .with-byte2 .ensures, c .before .before .before .local2 .ensures, c .before .before .before .before .with-byte .ensures, c .before .before .before .before .before .local .ensures)
 
 pub latch-spec : {M : Type 1} → statement M
 latch-spec =
-    tie.close (tie.spec free free free free free free free free returns)
+    tie.close (tie.spec (λ c. search needs) free free (λ c. search needs) free free free free returns)
