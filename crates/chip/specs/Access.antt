@@ -3,8 +3,8 @@ use Prim.Native.Nat.{ℕ, _+_, _*_, _/_, _%_}
 use mathlib.Core.Bool.{Bool, true, false, not, _&&_, cond}
 use mathlib.Core.List.{List, [], _∷_}
 use lib.Dec.{ltb}
-use Rattle.registers.specs.Status.{used, modified}
-use Rattle.registers.specs.Descriptor.{protected, physical-page, with-ssr}
+use Rattle.descriptors.specs.Status.{used, modified}
+use Rattle.descriptors.specs.Descriptor.{protected, physical-page, with-ssr}
 use Rattle.registers.specs.Unit.{NO, USA, WV, none, latch, report, with-rw}
 use Rattle.registers.specs.Shared.{entry, faulted, with-gsr}
 use Rattle.chip.specs.System.{unit, descriptor, with-descriptor, with-unit, with-shared, in-all}

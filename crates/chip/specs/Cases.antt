@@ -4,11 +4,11 @@ use Prim.Native.Nat.{ℕ, _+_}
 use mathlib.Core.Bool.{Bool, true, false, _&&_}
 use mathlib.Core.List.{List, [], _∷_, _++_}
 use lib.Dec.{eqb}
-use Rattle.registers.specs.Descriptor.{bytes}
+use Rattle.descriptors.specs.Descriptor.{bytes}
 use Rattle.chip.specs.Reset.{unselected, start}
 use Rattle.chip.specs.Access.{access}
 use Rattle.chip.specs.Register.{register}
-use Rattle.registers.specs.declared.descriptor.Descriptor.{Descriptor}
+use Rattle.descriptors.specs.declared.descriptor.Descriptor.{Descriptor}
 use Rattle.chip.specs.declared.system.System.{System}
 use Rattle.chip.specs.declared.reset.Selected.{Selected}
 use Rattle.chip.specs.declared.reset.Selected.the-variants as selected

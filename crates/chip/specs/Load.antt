@@ -2,12 +2,12 @@
 use Prim.Native.Nat.{ℕ, _%_}
 use mathlib.Core.Bool.{Bool, not, _&&_, cond}
 use mathlib.Core.List.{List, [], _∷_}
-use Rattle.registers.specs.Descriptor.{enabled, collides, disable}
+use Rattle.descriptors.specs.Descriptor.{enabled, collides, disable}
 use Rattle.registers.specs.Unit.{NO, LD, none, ac, write-ac, report, for-load, consistent, segment}
 use Rattle.chip.specs.System.{present, unit, descriptor, with-descriptor, in-each, in-all}
 use Rattle.chip.specs.Search.{first, found, in-system, in-unit}
 use Rattle.chip.specs.Transfer.{pointed, reading}
-use Rattle.registers.specs.declared.descriptor.Descriptor.{Descriptor}
+use Rattle.descriptors.specs.declared.descriptor.Descriptor.{Descriptor}
 use Rattle.registers.specs.declared.unit.Unit.{Unit}
 use Rattle.chip.specs.declared.system.System.{System}
 use Rattle.chip.specs.declared.search.Found.{Found}

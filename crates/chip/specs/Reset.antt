@@ -3,11 +3,11 @@ use Prim.Native.Nat.{ℕ, _*_}
 use mathlib.Core.Bool.{Bool, false}
 use mathlib.Core.List.{List, [], _∷_}
 use lib.ListN.{replicate}
-use Rattle.registers.specs.Descriptor.{zeros}
+use Rattle.descriptors.specs.Descriptor.{zeros}
 use Rattle.registers.specs.Unit.{NO, none, local, report}
 use Rattle.chip.specs.System.{with-descriptor, in-all}
 use Rattle.chip.specs.Answer.{granted, checked, miscounted, absent}
-use Rattle.registers.specs.declared.descriptor.Descriptor.{Descriptor}
+use Rattle.descriptors.specs.declared.descriptor.Descriptor.{Descriptor}
 use Rattle.registers.specs.declared.unit.Unit.{Unit}
 use Rattle.registers.specs.declared.shared.Shared.{Shared}
 use Rattle.chip.specs.declared.system.System.{System}

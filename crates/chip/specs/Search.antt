@@ -2,10 +2,10 @@
 -- units the lowest (document 01, "A bus access").
 use Prim.Native.Nat.{ℕ, suc, zero, _*_, _%_}
 use mathlib.Core.Bool.{Bool, true, false, _&&_, cond}
-use Rattle.registers.specs.Descriptor.{matches, pending, collides}
+use Rattle.descriptors.specs.Descriptor.{matches, pending, collides}
 use Rattle.registers.specs.Unit.{none}
 use Rattle.chip.specs.System.{present, descriptor}
-use Rattle.registers.specs.declared.descriptor.Descriptor.{Descriptor}
+use Rattle.descriptors.specs.declared.descriptor.Descriptor.{Descriptor}
 use Rattle.chip.specs.declared.system.System.{System}
 use Rattle.chip.specs.declared.search.Sought.{Sought}
 use Rattle.chip.specs.declared.search.Sought.the-variants.{Match, Clash, Pending}

@@ -2,9 +2,9 @@
 use Prim.Native.Nat.{ℕ, suc, zero, min}
 use mathlib.Core.List.{List, [], _∷_}
 use lib.ListN.{getD, set}
-use Rattle.registers.specs.Descriptor.{zeros}
+use Rattle.descriptors.specs.Descriptor.{zeros}
 use Rattle.registers.specs.Unit.{nothing}
-use Rattle.registers.specs.declared.descriptor.Descriptor.{Descriptor}
+use Rattle.descriptors.specs.declared.descriptor.Descriptor.{Descriptor}
 use Rattle.registers.specs.declared.unit.Unit.{Unit}
 use Rattle.registers.specs.declared.shared.Shared.{Shared}
 use Rattle.chip.specs.declared.system.System.{System}

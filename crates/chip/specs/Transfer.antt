@@ -1,7 +1,7 @@
 -- Segment status and transfer descriptor: handbook 4.6.2.3 and 4.6.2.4.
 use Prim.Native.Nat.{ℕ, _+_, _*_, _%_}
-use Rattle.registers.specs.Status.{rewritten}
-use Rattle.registers.specs.Descriptor.{with-ssr}
+use Rattle.descriptors.specs.Status.{rewritten}
+use Rattle.descriptors.specs.Descriptor.{with-ssr}
 use Rattle.registers.specs.Unit.{take}
 use Rattle.chip.specs.System.{unit, descriptor, with-unit, with-descriptor}
 use Rattle.chip.specs.declared.system.System.{System}

@@ -1,6 +1,6 @@
 -- Direct translation: handbook 4.6.3.3.
 use Prim.Native.Nat.{ℕ, _/_, _%_}
-use Rattle.registers.specs.Descriptor.{physical-page}
+use Rattle.descriptors.specs.Descriptor.{physical-page}
 use Rattle.registers.specs.Unit.{NO, none, ac, word, report, translated, for-translation}
 use Rattle.chip.specs.System.{unit, descriptor, with-unit, in-all}
 use Rattle.chip.specs.Search.{matching}

@@ -9,7 +9,7 @@ use crate::answer::Refusal;
 use crate::search::Found;
 use crate::search::Sought;
 use crate::system::System;
-use registers::status;
+use descriptors::status;
 use registers::unit;
 use registers::unit::Change;
 

@@ -1,16 +1,16 @@
 // Start and reset (handbook 4.5.1).
 ghost use mathlib.Core.Path.{_≡_};
-ghost use Rattle.registers.specs.Descriptor.{zeros};
+ghost use Rattle.descriptors.specs.Descriptor.{zeros};
 ghost use Rattle.chip.specs.Reset.{blank, uninitialized, unselected, identity, start, reset};
 use crate::answer;
 use crate::answer::Answer;
 use crate::answer::Outcome;
 use crate::answer::Refusal;
 use crate::system::System;
-use registers::descriptor::Descriptor;
+use descriptors::descriptor::Descriptor;
+use descriptors::status;
 use registers::shared::Gsr;
 use registers::shared::Shared;
-use registers::status;
 use registers::unit;
 use registers::unit::Byte;
 use registers::unit::Change;

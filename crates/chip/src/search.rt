@@ -4,7 +4,7 @@ ghost use Prim.Native.Nat.{_+_, _≤_, _<_};
 ghost use Rattle.chip.specs.System.{descriptor};
 ghost use Rattle.chip.specs.Search.{first, found, number-of, answers, in-system, in-unit, irq};
 use crate::system::System;
-use registers::descriptor::Descriptor;
+use descriptors::descriptor::Descriptor;
 use registers::unit;
 
 pub enum Sought {

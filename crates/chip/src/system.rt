@@ -12,7 +12,7 @@ ghost use Rattle.chip.specs.System.{
   in-all,
 };
 ghost use Rattle.registers.specs.Change.{changed};
-use registers::descriptor::Descriptor;
+use descriptors::descriptor::Descriptor;
 use registers::shared::Shared;
 use registers::unit::Change;
 use registers::unit::Unit;

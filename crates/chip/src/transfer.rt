@@ -3,7 +3,7 @@ ghost use mathlib.Core.Path.{_≡_};
 ghost use Prim.Native.Nat.{_<_};
 ghost use Rattle.chip.specs.Transfer.{pointed, transfer, write-status};
 use crate::system::System;
-use registers::status;
+use descriptors::status;
 
 // The byte that a read answers, and the whole system after it.
 pub struct Reading {

@@ -4,9 +4,9 @@ use mathlib.Core.Bool.{Bool, true, false, _&&_, cond}
 use mathlib.Core.List.{List, [], _∷_, map}
 use lib.ListN.{getD, set}
 use Rattle.masks.specs.Fields.{bit}
-use Rattle.registers.specs.Status.{clean}
-use Rattle.registers.specs.Descriptor.{bytes}
-use Rattle.registers.specs.declared.descriptor.Descriptor.{Descriptor}
+use Rattle.descriptors.specs.Status.{clean}
+use Rattle.descriptors.specs.Descriptor.{bytes}
+use Rattle.descriptors.specs.declared.descriptor.Descriptor.{Descriptor}
 use Rattle.registers.specs.declared.unit.Byte.{Byte}
 use Rattle.registers.specs.declared.unit.Unit.{Unit}
 use Rattle.registers.specs.declared.unit.Bytes.{Bytes}

@@ -1,4 +1,2 @@
-pub mod descriptor;
 pub mod shared;
-pub mod status;
 pub mod unit;

@@ -23,8 +23,8 @@ ghost use Rattle.registers.specs.Unit.{
   segment,
 };
 ghost use Rattle.registers.specs.Change.{changed};
-use crate::descriptor::Descriptor;
-use crate::status;
+use descriptors::descriptor::Descriptor;
+use descriptors::status;
 
 // 3.2.4: what the last event was, in L7 to L4.
 pub const NO: u8 = 0b0000;

@@ -2,7 +2,7 @@
 use mathlib.Core.Path.{_≡_, refl, ap, _∙_}
 use native.Mathlib.Omega.{arith}
 use Prim.Native.Nat.{ℕ, _≤_, _-_}
-use Rattle.registers.specs.Descriptor.{collides}
+use Rattle.descriptors.specs.Descriptor.{collides}
 use Rattle.chip.specs.System.{unit, each, with-units}
 use Rattle.chip.specs.Search.{in-unit}
 use Rattle.chip.specs.Load.{blame}

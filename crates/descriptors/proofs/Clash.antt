@@ -1,0 +1,34 @@
+-- The law of the clash: the computed test decides whether some page and some number exist that both descriptors match, E taken as set.
+-- Assumes nothing.
+use mathlib.Core.Path.{_≡_}
+use mathlib.Core.Logic.{_↔_}
+use mathlib.Core.Bool.{true, and-eq-true-iff}
+use Prim.Native.Nat.{ℕ}
+use lib.Dec.{lit<}
+use Rattle.masks.specs.Fields.{clash}
+use Rattle.masks.proofs.Bits.{bit-field}
+use Rattle.masks.proofs.Laws.{clash-exists}
+use Rattle.descriptors.specs.Status.{raise}
+use Rattle.descriptors.specs.Descriptor.{range-match, space-match, matches, with-ssr, enable, Clash, clashes}
+use Rattle.descriptors.specs.declared.descriptor.Descriptor.{Descriptor}
+
+-- with E set, a match is a range match and a space match
+enable-matches : (d : Descriptor) (page number : ℕ) → (matches (enable d) page number ≡ true) ↔ ((range-match d page ≡ true) × (space-match d number ≡ true))
+unfolding matches enable with-ssr raise
+enable-matches d page number = rw (bit-field 8 _ 0 (lit< tt)) (and-eq-true-iff _ _)
+
+pub clash-law : (d e : Descriptor) → (clashes d e ≡ true) ↔ Clash d e
+unfolding clashes Clash
+clash-law d e =
+    let ranges = clash-exists 16 (d .lam) (d .lba) (e .lam) (e .lba) in
+    let spaces = clash-exists 8 (d .asm) (d .asn) (e .asm) (e .asn) in
+    let both = and-eq-true-iff (clash 16 (d .lam) (d .lba) (e .lam) (e .lba)) (clash 8 (d .asm) (d .asn) (e .asm) (e .asn)) in (
+      λ c.
+          let r = ranges .0 (both .0 c .0) in
+          let s = spaces .0 (both .0 c .1) in
+          (r .0, s .0, r .1, s .1, enable-matches d (r .0) (s .0) .1 (r .2, s .2), enable-matches e (r .0) (s .0) .1 (r .3, s .3)),
+      λ k.
+          let r = enable-matches d (k .0) (k .1) .0 (k .4) in
+          let s = enable-matches e (k .0) (k .1) .0 (k .5) in
+          both .1 (ranges .1 (k .0, k .2, r .0, s .0), spaces .1 (k .1, k .3, r .1, s .1)),
+    )

@@ -1,0 +1,2 @@
+pub mod descriptor;
+pub mod status;
