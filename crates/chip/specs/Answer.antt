@@ -21,18 +21,36 @@ number FunctionCode = 4
 number Address = 5
 number Interrupt = 6
 
--- no number and no value
-abbrev pub nothing : Values
-nothing = record { number = 0; address = 0; unit = 0; descriptor = 0; win = false; byte = 0 }
+-- the kinds of an answer that is no refusal, by number: a start, a reset or a register write is done;
+-- a byte is read; an access is mapped, a write violation, or undefined
+abbrev pub done : ℕ
+done = 1
 
--- the number, or zero, and the values of an answer; what a kind of answer does not have is zero
+abbrev pub byte-read : ℕ
+byte-read = 2
+
+abbrev pub mapped : ℕ
+mapped = 3
+
+abbrev pub violating : ℕ
+violating = 4
+
+abbrev pub undefined : ℕ
+undefined = 5
+
+-- an answer of this kind, with no other value
+abbrev pub of-kind : (kind : ℕ) → Values
+of-kind kind = record { number = 0; kind = kind; address = 0; unit = 0; descriptor = 0; win = false; byte = 0 }
+
+-- the number of the refusal or zero, the kind, and the values of an answer; what a kind does not have
+-- is zero
 abbrev pub values : Answer → Values
-values (Refused r) = record { number = number r; address = 0; unit = 0; descriptor = 0; win = false; byte = 0 }
-values Done = nothing
-values (Byte b) = record { number = 0; address = 0; unit = 0; descriptor = 0; win = false; byte = b }
-values (Mapped a u d w) = record { number = 0; address = a; unit = u; descriptor = d; win = w; byte = 0 }
-values (Violation u d w) = record { number = 0; address = 0; unit = u; descriptor = d; win = w; byte = 0 }
-values Undefined = nothing
+values (Refused r) = record { number = number r; kind = 0; address = 0; unit = 0; descriptor = 0; win = false; byte = 0 }
+values Done = of-kind done
+values (Byte b) = record { number = 0; kind = byte-read; address = 0; unit = 0; descriptor = 0; win = false; byte = b }
+values (Mapped a u d w) = record { number = 0; kind = mapped; address = a; unit = u; descriptor = d; win = w; byte = 0 }
+values (Violation u d w) = record { number = 0; kind = violating; address = 0; unit = u; descriptor = d; win = w; byte = 0 }
+values Undefined = of-kind undefined
 
 -- a refusal: every other field is zero, the state is unchanged
 unfoldable pub refused : Refusal → System → Outcome

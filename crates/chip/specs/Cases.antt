@@ -1,10 +1,11 @@
 -- The twelve worked cases: handbook Figure 6-1 and its neighbours, as document 01 numbers them. They go
 -- through the calls that a host makes: start, register writes and reads, bus accesses.
 use Prim.Native.Nat.{ℕ, _+_}
-use mathlib.Core.Bool.{Bool, true, false, _&&_}
+use mathlib.Core.Bool.{Bool, true, _&&_}
 use mathlib.Core.List.{List, [], _∷_, _++_}
 use lib.Dec.{eqb}
 use Rattle.descriptors.specs.Descriptor.{bytes}
+use Rattle.chip.specs.Answer.{done, byte-read, mapped, undefined, values}
 use Rattle.chip.specs.Reset.{unselected, start}
 use Rattle.chip.specs.Access.{access}
 use Rattle.chip.specs.Register.{register}
@@ -14,9 +15,6 @@ use Rattle.chip.specs.declared.reset.Selected.{Selected}
 use Rattle.chip.specs.declared.reset.Selected.the-variants as selected
 use Rattle.chip.specs.declared.access.Cycle.the-variants as cycle
 use Rattle.chip.specs.declared.register.Operation.the-variants.{Read, Write}
-use Rattle.chip.specs.declared.answer.Answer.{Answer}
-use Rattle.chip.specs.declared.answer.Answer.the-variants.{Refused, Done, Byte, Mapped, Violation, Undefined}
-use Rattle.chip.specs.declared.answer.Outcome.{Outcome}
 
 -- A step: a call to unit 0, and what it must answer.
 pub data Step : Type 0 where
@@ -29,38 +27,6 @@ pub data Step : Type 0 where
   -- in the space of this number a read of the address is undefined
   misses : (number address : ℕ) → Step
 
-abbrev pub is-done : Answer → Bool
-is-done Done = true
-is-done (Refused r) = false
-is-done (Byte b) = false
-is-done (Mapped a u d w) = false
-is-done (Violation u d w) = false
-is-done Undefined = false
-
-abbrev pub is-byte : ℕ → Answer → Bool
-is-byte x (Byte b) = eqb b x
-is-byte x Done = false
-is-byte x (Refused r) = false
-is-byte x (Mapped a u d w) = false
-is-byte x (Violation u d w) = false
-is-byte x Undefined = false
-
-abbrev pub is-mapped : ℕ → Answer → Bool
-is-mapped x (Mapped a u d w) = eqb a x
-is-mapped x Done = false
-is-mapped x (Byte b) = false
-is-mapped x (Refused r) = false
-is-mapped x (Violation u d w) = false
-is-mapped x Undefined = false
-
-abbrev pub is-undefined : Answer → Bool
-is-undefined Undefined = true
-is-undefined Done = false
-is-undefined (Byte b) = false
-is-undefined (Refused r) = false
-is-undefined (Mapped a u d w) = false
-is-undefined (Violation u d w) = false
-
 -- function code 1 stands for the number
 abbrev pub in-space : (number : ℕ) → System → System
 in-space number s = register 0 0x02 (Write number) s .system
@@ -69,13 +35,17 @@ in-space number s = register 0 0x02 (Write number) s .system
 abbrev pub holds : List Step → System → Bool
 holds [] s = true
 holds (write address byte ∷ steps) s =
-    let o = register 0 address (Write byte) s in is-done (o .answer) && holds steps (o .system)
+    let o = register 0 address (Write byte) s in
+    eqb (values (o .answer) .kind) done && holds steps (o .system)
 holds (reads address byte ∷ steps) s =
-    let o = register 0 address Read s in is-byte byte (o .answer) && holds steps (o .system)
+    let o = register 0 address Read s in
+    eqb (values (o .answer) .kind) byte-read && eqb (values (o .answer) .byte) byte && holds steps (o .system)
 holds (maps number address physical ∷ steps) s =
-    let o = access 1 cycle.Read address (in-space number s) in is-mapped physical (o .answer) && holds steps (o .system)
+    let o = access 1 cycle.Read address (in-space number s) in
+    eqb (values (o .answer) .kind) mapped && eqb (values (o .answer) .address) physical && holds steps (o .system)
 holds (misses number address ∷ steps) s =
-    let o = access 1 cycle.Read address (in-space number s) in is-undefined (o .answer) && holds steps (o .system)
+    let o = access 1 cycle.Read address (in-space number s) in
+    eqb (values (o .answer) .kind) undefined && holds steps (o .system)
 
 -- the accumulator bytes from AC i on are written
 abbrev pub fill : (i : ℕ) → List ℕ → List Step
@@ -152,4 +122,5 @@ cases =
 abbrev pub all-hold : List Case → Bool
 all-hold [] = true
 all-hold (c ∷ cs) =
-    let o = start 1 (c .unit) (unselected 0) in is-done (o .answer) && holds (c .steps) (o .system) && all-hold cs
+    let o = start 1 (c .unit) (unselected 0) in
+    eqb (values (o .answer) .kind) done && holds (c .steps) (o .system) && all-hold cs

@@ -3,7 +3,7 @@ use Prim.Native.Nat.{ℕ, suc, zero, min}
 use mathlib.Core.List.{List, [], _∷_}
 use lib.ListN.{getD, set}
 use Rattle.descriptors.specs.Descriptor.{zeros}
-use Rattle.registers.specs.Unit.{nothing}
+use Rattle.registers.specs.Unit.{no-unit}
 use Rattle.descriptors.specs.declared.descriptor.Descriptor.{Descriptor}
 use Rattle.registers.specs.declared.unit.Unit.{Unit}
 use Rattle.registers.specs.declared.shared.Shared.{Shared}
@@ -16,7 +16,7 @@ present s = min (s .shared .count) 6
 
 -- unit m
 abbrev pub unit : System → (m : ℕ) → Unit
-unit s m = getD (s .units) m nothing
+unit s m = getD (s .units) m no-unit
 
 -- the descriptor at place i of the 192: descriptor i % 32 of unit i / 32
 abbrev pub descriptor : System → (i : ℕ) → Descriptor

@@ -1,6 +1,6 @@
 // The answers, and document 01's number and values for each.
 ghost use mathlib.Core.Path.{_≡_};
-ghost use Rattle.chip.specs.Answer.{number, nothing, values, refused, granted, miscounted, absent};
+ghost use Rattle.chip.specs.Answer.{number, of-kind, values, refused, granted, miscounted};
 use crate::system::System;
 
 pub enum Refusal {
@@ -30,9 +30,21 @@ pub enum Answer {
     Undefined,
 }
 
+// The kinds of an answer that is no refusal.
+pub const DONE: u8 = 1;
+
+pub const BYTE: u8 = 2;
+
+pub const MAPPED: u8 = 3;
+
+pub const VIOLATION: u8 = 4;
+
+pub const UNDEFINED: u8 = 5;
+
 // An answer as numbers: what a kind of answer does not have is zero.
 pub struct Values {
     pub number: u8,
+    pub kind: u8,
     pub address: u32,
     pub unit: u8,
     pub descriptor: u8,
@@ -63,11 +75,13 @@ impl Refusal {
 }
 
 impl Values {
-    fn none() -> Values
-        ensures { λ r. ⌜ r ≡ nothing ⌝ }
+    // An answer of this kind, with no other value.
+    fn of(kind: u8) -> Values
+        ensures { λ r. ⌜ r ≡ of-kind kind ⌝ }
     {
         Values {
             number: 0,
+            kind,
             address: 0,
             unit: 0,
             descriptor: 0,
@@ -81,13 +95,17 @@ impl Answer {
     pub fn values(self) -> Values
         ensures { λ r. ⌜ r ≡ values self ⌝ }
     {
-        let mut values = Values::none();
         match self {
             Answer::Refused(refusal) => {
+                let mut values = Values::of(0);
                 values.number = refusal.number();
+                values
             }
+            Answer::Done => Values::of(DONE),
             Answer::Byte(byte) => {
+                let mut values = Values::of(BYTE);
                 values.byte = byte;
+                values
             }
             Answer::Mapped {
                 address,
@@ -95,24 +113,26 @@ impl Answer {
                 descriptor,
                 win,
             } => {
+                let mut values = Values::of(MAPPED);
                 values.address = address;
                 values.unit = unit;
                 values.descriptor = descriptor;
                 values.win = win;
+                values
             }
             Answer::Violation {
                 unit,
                 descriptor,
                 win,
             } => {
+                let mut values = Values::of(VIOLATION);
                 values.unit = unit;
                 values.descriptor = descriptor;
                 values.win = win;
+                values
             }
-            Answer::Done => {}
-            Answer::Undefined => {}
+            Answer::Undefined => Values::of(UNDEFINED),
         }
-        values
     }
 }
 

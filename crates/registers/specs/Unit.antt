@@ -139,5 +139,5 @@ abbrev pub segment : Unit → Descriptor
 segment u = record { lba = word u 0; lam = word u 2; pba = word u 4; asn = ac u 6; ssr = clean (ac u 7); asm = ac u 8 }
 
 -- no accumulator, every register zero: what a list of units gives past its end
-abbrev pub nothing : Unit
-nothing = record { accumulator = []; dp = 0; rdp = 0; l = 0; rw = false }
+abbrev pub no-unit : Unit
+no-unit = record { accumulator = []; dp = 0; rdp = 0; l = 0; rw = false }

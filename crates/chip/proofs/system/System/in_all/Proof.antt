@@ -5,7 +5,7 @@ use mathlib.Core.List.{List}
 use native.Mathlib.Omega.{arith}
 use Prim.Native.Nat.{ℕ, _≤_, _-_}
 use Rattle.registers.specs.Change.{changed}
-use Rattle.registers.specs.Unit.{nothing}
+use Rattle.registers.specs.Unit.{no-unit}
 use Rattle.chip.specs.System.{each, with-units}
 use Rattle.registers.specs.declared.unit.Unit.{Unit}
 use Rattle.chip.specs.declared.system.System.{System}
