@@ -2,14 +2,14 @@
 -- Assumes nothing.
 use mathlib.Core.Path.{_≡_}
 use mathlib.Core.Logic.{_↔_}
-use mathlib.Core.Bool.{true, and-eq-true-iff}
-use Prim.Native.Nat.{ℕ}
+use mathlib.Core.Bool.{true, _&&_, and-eq-true-iff}
+use Prim.Native.Nat.{ℕ, _<_, _^_}
 use lib.Dec.{lit<}
 use Rattle.masks.specs.Fields.{clash}
 use Rattle.masks.proofs.Bits.{bit-field}
 use Rattle.masks.proofs.Laws.{clash-exists}
 use Rattle.descriptors.specs.Status.{raise}
-use Rattle.descriptors.specs.Descriptor.{range-match, space-match, matches, with-ssr, enable, Clash, clashes}
+use Rattle.descriptors.specs.Descriptor.{enabled, range-match, space-match, matches, with-ssr, enable, Clash, clashes}
 use Rattle.descriptors.specs.declared.descriptor.Descriptor.{Descriptor}
 
 -- with E set, a match is a range match and a space match
@@ -32,3 +32,24 @@ clash-law d e =
           let s = enable-matches e (k .0) (k .1) .0 (k .5) in
           both .1 (ranges .1 (k .0, k .2, r .0, s .0), spaces .1 (k .1, k .3, r .1, s .1)),
     )
+
+-- what matches is enabled, and stays a match with E set
+matches-parts : (d : Descriptor) (page number : ℕ) → matches d page number ≡ true
+    → (enabled d ≡ true) × (range-match d page ≡ true) × (space-match d number ≡ true)
+unfolding matches
+matches-parts d page number m =
+    let outer = and-eq-true-iff (enabled d && range-match d page) (space-match d number) .0 m in
+    let inner = and-eq-true-iff (enabled d) (range-match d page) .0 (outer .0) in
+    (inner .0, inner .1, outer .1)
+
+pub matches-enabled : (d : Descriptor) (page number : ℕ) → matches d page number ≡ true → enabled d ≡ true
+matches-enabled d page number m = matches-parts d page number m .0
+
+-- two descriptors that match one page and one number clash
+pub matches-clash : (d e : Descriptor) (page number : ℕ) → page < 2 ^ 16 → number < 2 ^ 8
+    → matches d page number ≡ true → matches e page number ≡ true → clashes d e ≡ true
+unfolding Clash
+matches-clash d e page number p n md me =
+    let a = matches-parts d page number md in
+    let b = matches-parts e page number me in
+    clash-law d e .1 (page, number, p, n, enable-matches d page number .1 (a .1, a .2), enable-matches e page number .1 (b .1, b .2))
