@@ -1,6 +1,6 @@
 -- At most one match: in a system in which no two enabled descriptors clash, a page and a number are matched at one place at
 -- most; and the match that is found is the lowest. Assumes nothing.
-use Prim.Native.Nat.{ℕ, _+_, _*_, _<_, _≤_, _^_}
+use Prim.Native.Nat.{ℕ, _+_, _*_, _<_, _^_}
 use mathlib.Core.Path.{_≡_}
 use mathlib.Core.Bool.{true, false}
 use native.Mathlib.Omega.{arith}

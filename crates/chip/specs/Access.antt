@@ -1,7 +1,7 @@
 -- A bus access, the normal address translation: handbook 4.5.3.
 use Prim.Native.Nat.{ℕ, _+_, _*_, _/_, _%_}
 use mathlib.Core.Bool.{Bool, true, false, not, _&&_, cond}
-use mathlib.Core.List.{List, [], _∷_}
+use mathlib.Core.List.{[], _∷_}
 use lib.Dec.{ltb}
 use Rattle.descriptors.specs.Status.{used, modified}
 use Rattle.descriptors.specs.Descriptor.{protected, physical-page, with-ssr}

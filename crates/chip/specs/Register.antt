@@ -1,6 +1,6 @@
 -- The registers by their addresses: handbook 4.6.1, Table 4-3.
 use Prim.Native.Nat.{ℕ, _-_, _/_, _%_}
-use mathlib.Core.Bool.{Bool, cond}
+use mathlib.Core.Bool.{cond}
 use mathlib.Core.List.{[], _∷_}
 use lib.Dec.{eqb, ltb}
 use Rattle.registers.specs.Unit.{NO, ac, lsr, write-ac, write-dp, write-lsr, with-l}

@@ -1,16 +1,7 @@
 // One to six units on one board: 32 descriptors for each, in one array, and what the units share (handbook 4.2).
 ghost use mathlib.Core.Path.{_≡_};
 ghost use Prim.Native.Nat.{_<_};
-ghost use Rattle.chip.specs.System.{
-  present,
-  unit,
-  descriptor,
-  with-units,
-  with-shared,
-  with-descriptor,
-  with-unit,
-  in-all,
-};
+ghost use Rattle.chip.specs.System.{present, unit, descriptor, with-shared, with-descriptor, with-unit, in-all};
 ghost use Rattle.registers.specs.Change.{changed};
 use descriptors::descriptor::Descriptor;
 use registers::shared::Shared;

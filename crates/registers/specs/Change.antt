@@ -1,5 +1,4 @@
 -- What an event does to every unit alike, by name. Only the function that does it speaks of these names.
-use Prim.Native.Nat.{ℕ}
 use Rattle.registers.specs.Unit.{with-l, with-rw, write-ac, write-dp, write-lsr, latch, report}
 use Rattle.registers.specs.declared.unit.Unit.{Unit}
 use Rattle.registers.specs.declared.unit.Change.{Change}

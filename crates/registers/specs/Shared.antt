@@ -1,6 +1,6 @@
 -- The registers of which all units hold the same: handbook 3.2.1, 3.2.3 and 3.2.8; and how many units there are.
 use Prim.Native.Nat.{ℕ, _+_, _*_}
-use mathlib.Core.Bool.{Bool, true, _||_}
+use mathlib.Core.Bool.{true, _||_}
 use lib.ListN.{getD, set}
 use Rattle.masks.specs.Fields.{bit}
 use Rattle.registers.specs.Unit.{flag}

@@ -1,5 +1,5 @@
 -- `status::rewritten` meets its contract: E as it was decides. Assumes nothing.
-use mathlib.Core.Path.{_≡_, sym, ap, _∙_}
+use mathlib.Core.Path.{sym, ap, _∙_}
 use mathlib.Core.Bool.{not}
 use borrow.Author.Tests.{eq-eqb, ne-eqb}
 use Rattle.masks.proofs.Bits.{bit-test}

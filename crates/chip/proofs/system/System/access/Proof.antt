@@ -1,6 +1,6 @@
 -- `System::access` meets its contract: the checks in their order, then the translation. Assumes nothing.
 use borrow.Author.Needs.{needs}
-use mathlib.Core.Path.{_≡_, sym, _∙_}
+use mathlib.Core.Path.{sym, _∙_}
 use borrow.Author.Tests.{lt-ltb, le-ltb}
 use Rattle.chip.specs.Access.{access}
 use Rattle.masks.proofs.Free.{free}

@@ -1,5 +1,5 @@
 -- `System::acknowledge` meets its contract: the checks in their order, then the vector. Assumes nothing.
-use mathlib.Core.Path.{_≡_, sym, ap, _∙_}
+use mathlib.Core.Path.{sym, ap, _∙_}
 use mathlib.Core.Bool.{not}
 use borrow.Author.Tests.{lt-ltb, le-ltb}
 use Rattle.chip.specs.Acknowledge.{acknowledge}

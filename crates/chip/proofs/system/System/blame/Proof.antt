@@ -1,7 +1,7 @@
 -- `System::blame` meets its contract: the units below k have their part, the others are as they were. Assumes nothing.
 use mathlib.Core.Path.{_≡_, refl, ap, _∙_}
 use native.Mathlib.Omega.{arith}
-use Prim.Native.Nat.{ℕ, _≤_, _-_}
+use Prim.Native.Nat.{_≤_, _-_}
 use Rattle.descriptors.specs.Descriptor.{collides}
 use Rattle.chip.specs.System.{unit, each, with-units}
 use Rattle.chip.specs.Search.{in-unit}

@@ -1,14 +1,9 @@
 -- `System::in_all` meets its contract: the units below m are changed, the others are as they were. Assumes nothing.
-use borrow.Author.Needs.{needs}
-use mathlib.Core.Path.{_≡_, refl, ap, _∙_}
-use mathlib.Core.List.{List}
+use mathlib.Core.Path.{_≡_, refl, _∙_}
 use native.Mathlib.Omega.{arith}
-use Prim.Native.Nat.{ℕ, _≤_, _-_}
+use Prim.Native.Nat.{_≤_, _-_}
 use Rattle.registers.specs.Change.{changed}
-use Rattle.registers.specs.Unit.{no-unit}
 use Rattle.chip.specs.System.{each, with-units}
-use Rattle.registers.specs.declared.unit.Unit.{Unit}
-use Rattle.chip.specs.declared.system.System.{System}
 use Rattle.chip.proofs.Units.{next}
 use Rattle.masks.proofs.Free.{free}
 use Rattle.chip.proofs.system.System.in_all.Statement.{statement}

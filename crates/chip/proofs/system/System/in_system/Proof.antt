@@ -1,5 +1,4 @@
 -- `System::in_system` meets its contract. Assumes nothing.
-use borrow.Author.Needs.{needs}
 use native.Mathlib.Omega.{arith}
 use Rattle.masks.proofs.Free.{free}
 use Rattle.chip.proofs.system.System.in_system.Statement.{statement}

@@ -1,6 +1,6 @@
 -- `System::prepare` meets its contract: the bytes go out one by one. Assumes nothing.
 use borrow.Author.Needs.{needs}
-use mathlib.Core.Path.{_≡_, sym, _∙_}
+use mathlib.Core.Path.{sym, _∙_}
 use borrow.Author.Tests.{not-true, not-false}
 use Rattle.chip.specs.Load.{prepare}
 use Rattle.masks.proofs.Free.{free}

@@ -1,5 +1,5 @@
 -- `System::register` meets its contract: the checks in their order, then the operation. Assumes nothing.
-use mathlib.Core.Path.{_≡_, sym, _∙_}
+use mathlib.Core.Path.{sym, _∙_}
 use native.Mathlib.Omega.{arith}
 use borrow.Author.Tests.{lt-ltb, le-ltb}
 use Rattle.chip.specs.Register.{register}

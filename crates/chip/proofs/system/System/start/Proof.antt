@@ -1,6 +1,6 @@
 -- `System::start` meets its contract: the checks in their order, then the new system. Assumes nothing.
 use borrow.Author.Needs.{needs}
-use mathlib.Core.Path.{_≡_, sym, _∙_}
+use mathlib.Core.Path.{sym, _∙_}
 use native.Mathlib.Omega.{arith}
 use borrow.Author.Tests.{lt-ltb, le-ltb}
 use Rattle.chip.specs.Reset.{fresh, start}

@@ -1,10 +1,8 @@
 -- `System::translate` meets its contract: by where the match was found. Assumes nothing.
 use borrow.Author.Needs.{needs}
-use mathlib.Core.Path.{_≡_, sym, _∙_}
+use mathlib.Core.Path.{sym, _∙_}
 use native.Mathlib.Omega.{arith}
-use Rattle.chip.specs.Search.{matching}
 use Rattle.chip.specs.Access.{translate, translate-at}
-use Rattle.chip.specs.declared.search.Found.the-variants.{At, Nowhere}
 use Rattle.chip.proofs.First.{first-found}
 use Rattle.masks.proofs.Free.{free}
 use Rattle.chip.proofs.system.System.translate.Statement.{statement}
