@@ -13,6 +13,7 @@ use descriptors::status;
 use registers::unit;
 use registers::unit::Change;
 
+// A bus cycle as the chip sees it (R/W).
 pub enum Cycle {
     Read,
     Write,
@@ -28,6 +29,7 @@ impl Cycle {
         }
     }
 
+    // 4.5.3.2: the status of the segment that was used.
     fn touched(self, ssr: u8) -> u8
         ensures { λ r. ⌜ r ≡ touched self ssr ⌝ }
     {
@@ -45,6 +47,7 @@ fn physical(page: u16, offset: u8) -> u32
 }
 
 impl System {
+    // 3.2.3, 3.2.4: what both faults do in every unit.
     fn fault(self, cycle: Cycle) -> System
         ensures { λ r. ⌜ r ≡ fault cycle self ⌝ }
     {
@@ -72,6 +75,7 @@ impl System {
             .in_all(Change::Report(unit::USA, unit::NONE))
     }
 
+    // 4.5.3.2, or a violation.
     fn match_at(self, i: usize, cycle: Cycle, page: u16, number: u8, offset: u8) -> Outcome
         requires { ⌜ i < 192 ⌝ }
         ensures { λ r. ⌜ r ≡ match-at i cycle page number offset self ⌝ }
@@ -99,6 +103,7 @@ impl System {
             .granted(answer)
     }
 
+    // 4.5.3.
     fn translate(self, code: usize, cycle: Cycle, address: u64) -> Outcome
         requires { ⌜ address < 16777216 ⌝ }
         ensures { λ r. ⌜ r ≡ translate code cycle address self ⌝ }
@@ -113,6 +118,7 @@ impl System {
         }
     }
 
+    // One bus access; refusals 1, 4 and 5.
     pub fn access(self, function_code: u64, cycle: Cycle, address: u64) -> Outcome
         ensures { λ r. ⌜ r ≡ access «function_code» cycle address self ⌝ }
     {

@@ -8,6 +8,7 @@ use crate::answer::Refusal;
 use crate::system::System;
 
 impl System {
+    // Refusals 1, 2 and 6.
     pub fn acknowledge(self, unit: u64) -> Outcome
         ensures { λ r. ⌜ r ≡ acknowledge unit self ⌝ }
     {

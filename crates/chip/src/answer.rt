@@ -3,6 +3,7 @@ ghost use mathlib.Core.Path.{_≡_};
 ghost use Rattle.chip.specs.Answer.{number, of-kind, values, refused, granted, miscounted};
 use crate::system::System;
 
+// What a host gets back in place of an answer.
 pub enum Refusal {
     Count,
     Unit,
@@ -136,6 +137,7 @@ impl Answer {
     }
 }
 
+// Refusal 1.
 pub(crate) fn miscounted(count: usize) -> bool
     ensures { λ r. ⌜ r ≡ miscounted count ⌝ }
 {

@@ -17,6 +17,7 @@ use registers::unit::Bytes;
 use registers::unit::Change;
 use registers::unit::Unit;
 
+// A unit's part in a refused load.
 fn blame(unit: Unit, found: Found) -> Unit
     ensures { λ r. ⌜ r ≡ blame found unit ⌝ }
 {
@@ -27,6 +28,7 @@ fn blame(unit: Unit, found: Found) -> Unit
 }
 
 impl System {
+    // 3.2.4: GAL or GAT is clear in some unit.
     fn inconsistent(self, bytes: Bytes) -> bool
         ensures { λ r. ⌜ r ≡ inconsistent (needed bytes) self ⌝ }
     {
@@ -40,6 +42,7 @@ impl System {
         false
     }
 
+    // One byte of unit m's accumulator goes to all units, as by a global write.
     fn send(self, i: usize, m: usize) -> System
         requires { ⌜ m < 6 ⌝ }
         ensures { λ r. ⌜ r ≡ send i m self ⌝ }
@@ -47,6 +50,7 @@ impl System {
         self.in_all(Change::Ac(i, self.unit(m).ac(i)))
     }
 
+    // Before a load and a direct translation.
     pub(crate) fn prepare(self, bytes: Bytes, m: usize) -> System
         requires { ⌜ m < 6 ⌝ }
         ensures { λ r. ⌜ r ≡ prepare (needed bytes) m self ⌝ }
@@ -83,6 +87,7 @@ impl System {
         self
     }
 
+    // The place is disabled first, so that it cannot cause a collision.
     fn load_at(self, d: Descriptor, i: usize) -> Reading
         requires { ⌜ i < 192 ⌝ }
         ensures { λ r. ⌜ r ≡ load-at d i self ⌝ }

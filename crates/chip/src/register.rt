@@ -14,6 +14,7 @@ use registers::shared::Gsr;
 use registers::unit;
 use registers::unit::Change;
 
+// A row of the table.
 pub enum Register {
     Ast(usize),
     Ac(usize),
@@ -36,6 +37,7 @@ pub enum Operation {
 }
 
 impl Register {
+    // The row of an address; any other is a null operation.
     pub fn at(address: u64) -> Register
         ensures { λ r. ⌜ r ≡ register-at address ⌝ }
     {
@@ -69,6 +71,7 @@ impl System {
         Reading { byte, system: self }
     }
 
+    // 4.6.2.2, and the operations that a read designates.
     fn read(self, register: Register, m: usize) -> Reading
         requires { ⌜ m < 6 ⌝ }
         ensures { λ r. ⌜ r ≡ read register m self ⌝ }
@@ -90,6 +93,7 @@ impl System {
         }
     }
 
+    // 3.2.3: clearing F clears L4-L7.
     fn write_gsr(self, value: u8) -> System
         ensures { λ r. ⌜ r ≡ write-gsr value self ⌝ }
     {
@@ -102,6 +106,7 @@ impl System {
         }
     }
 
+    // 4.6.3.1, 4.6.2.4.
     fn write(self, register: Register, m: usize, value: u8) -> System
         requires { ⌜ m < 6 ⌝ }
         ensures { λ r. ⌜ r ≡ write register m value self ⌝ }
@@ -135,6 +140,7 @@ impl System {
         }
     }
 
+    // One register access by byte; refusals 1, 2 and 3.
     pub fn register(self, unit: u64, address: u64, operation: Operation) -> Outcome
         ensures { λ r. ⌜ r ≡ register unit address operation self ⌝ }
     {

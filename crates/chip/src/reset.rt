@@ -35,6 +35,7 @@ fn zeros() -> Descriptor
     }
 }
 
+// What maps every address to itself, for number 00.
 fn identity() -> Descriptor
     ensures { λ r. ⌜ r ≡ identity ⌝ }
 {
@@ -99,6 +100,7 @@ impl System {
         system.in_all(Change::Report(unit::NO, unit::NONE))
     }
 
+    // Refusals 1 and 2.
     pub fn start(self, count: u64, selected: Selected) -> Outcome
         ensures { λ r. ⌜ r ≡ start count selected self ⌝ }
     {
@@ -121,6 +123,7 @@ impl System {
         }
     }
 
+    // Start for the count that is there.
     pub fn reset(self, selected: Selected) -> Outcome
         ensures { λ r. ⌜ r ≡ reset selected self ⌝ }
     {

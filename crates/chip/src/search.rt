@@ -7,12 +7,14 @@ use crate::system::System;
 use descriptors::descriptor::Descriptor;
 use registers::unit;
 
+// What is sought of a descriptor.
 pub enum Sought {
     Match(u16, u8),
     Clash(Descriptor),
     Pending,
 }
 
+// A place among the 192.
 pub enum Found {
     At(usize),
     Nowhere,
@@ -40,6 +42,7 @@ impl Found {
         }
     }
 
+    // As the RDP and the IDP have it.
     pub(crate) fn number(self) -> u8
         ensures { λ r. ⌜ r ≡ number-of self ⌝ }
     {
@@ -77,6 +80,7 @@ impl System {
         self.first(sought, 32 * m, 32)
     }
 
+    // 2.14: the interrupt request line.
     pub(crate) fn irq(self) -> bool
         ensures { λ r. ⌜ r ≡ irq self ⌝ }
     {

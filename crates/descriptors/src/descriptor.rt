@@ -1,17 +1,7 @@
 // A descriptor: a memory segment and how it is mapped to physical addresses (handbook 3.1).
 ghost use mathlib.Core.Path.{_≡_};
-ghost use Rattle.descriptors.specs.Descriptor.{
-  enabled,
-  protected,
-  pending,
-  range-match,
-  space-match,
-  matches,
-  physical-page,
-  with-ssr,
-  clashes,
-  bytes,
-};
+ghost use Rattle.descriptors.specs.Descriptor.{enabled, protected, pending, with-ssr, bytes};
+ghost use Rattle.descriptors.specs.Descriptor.{range-match, space-match, matches, physical-page, clashes};
 use crate::status;
 use masks::byte;
 use masks::word;

@@ -33,6 +33,7 @@ impl Gsr {
         }
     }
 
+    // 3.2.3: as it is written.
     pub fn of(value: u8) -> Gsr
         ensures { λ r. ⌜ r ≡ gsr-of value ⌝ }
     {
@@ -43,6 +44,7 @@ impl Gsr {
         }
     }
 
+    // 3.2.3: as it is read.
     pub fn byte(self) -> u8
         ensures { λ r. ⌜ r ≡ gsr-byte self ⌝ }
     {
@@ -51,6 +53,7 @@ impl Gsr {
 }
 
 impl Shared {
+    // 3.2.1.
     pub fn entry(self, i: usize) -> u8
         ensures { λ r. ⌜ r ≡ entry self i ⌝ }
     {

@@ -1,27 +1,9 @@
 // The registers that a unit has of its own: accumulator, descriptor pointers, local status (handbook 3.2.2 to 3.2.6).
 ghost use mathlib.Core.Path.{_≡_};
 ghost use Prim.Native.Nat.{_+_, _*_, _<_};
-ghost use Rattle.registers.specs.Unit.{
-  global,
-  local,
-  ac,
-  with-dp,
-  with-rdp,
-  with-l,
-  with-rw,
-  with-byte,
-  report,
-  latch,
-  take,
-  translated,
-  for-translation,
-  for-load,
-  needed,
-  consistent,
-  lsr,
-  word,
-  segment,
-};
+ghost use Rattle.registers.specs.Unit.{local, ac, word, segment, needed, consistent, for-translation, for-load};
+ghost use Rattle.registers.specs.Unit.{with-byte, with-dp, with-rdp, with-l, with-rw, report, latch, take};
+ghost use Rattle.registers.specs.Unit.{translated, lsr};
 ghost use Rattle.registers.specs.Change.{changed};
 use descriptors::descriptor::Descriptor;
 use descriptors::status;
@@ -126,6 +108,7 @@ impl Unit {
         self
     }
 
+    // 3.2.4, 3.2.6: what the last event left.
     pub fn report(self, l: u8, rdp: u8) -> Unit
         ensures { λ r. ⌜ r ≡ report l rdp self ⌝ }
     {
@@ -191,6 +174,7 @@ impl Unit {
         }
     }
 
+    // 3.2.4.
     pub fn consistent(self, bytes: Bytes) -> bool
         ensures { λ r. ⌜ r ≡ consistent (needed bytes) self ⌝ }
     {
@@ -216,6 +200,7 @@ impl Unit {
         a[0].global & a[1].global & a[2].global & a[3].global & a[6].global & a[8].global
     }
 
+    // 3.2.4: the register as it is read.
     pub fn lsr(self, lip: bool) -> u8
         ensures { λ r. ⌜ r ≡ lsr self lip ⌝ }
     {
@@ -226,6 +211,7 @@ impl Unit {
             + lip as u8
     }
 
+    // 3.2.2.
     pub fn ac(self, i: usize) -> u8
         ensures { λ r. ⌜ r ≡ ac self i ⌝ }
     {
@@ -246,6 +232,7 @@ impl Unit {
         self.word(0)
     }
 
+    // Table 3-1: the descriptor about to be loaded.
     pub fn segment(self) -> Descriptor
         ensures { λ r. ⌜ r ≡ segment self ⌝ }
     {
