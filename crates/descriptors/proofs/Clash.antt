@@ -14,7 +14,7 @@ use Rattle.descriptors.specs.declared.descriptor.Descriptor.{Descriptor}
 
 -- with E set, a match is a range match and a space match
 enable-matches : (d : Descriptor) (page number : ℕ) → (matches (enable d) page number ≡ true) ↔ ((range-match d page ≡ true) × (space-match d number ≡ true))
-unfolding matches enable with-ssr raise
+unfolding matches enable raise
 enable-matches d page number = rw (bit-field 8 _ 0 (lit< tt)) (and-eq-true-iff _ _)
 
 pub clash-law : (d e : Descriptor) → (clashes d e ≡ true) ↔ Clash d e

@@ -37,7 +37,7 @@ abbrev pub physical-page : Descriptor → (page : ℕ) → ℕ
 physical-page d page = gate 16 (d .lam) page (d .pba)
 
 -- the same segment with another status
-unfoldable pub with-ssr : Descriptor → ℕ → Descriptor
+abbrev pub with-ssr : Descriptor → ℕ → Descriptor
 with-ssr d ssr = record { lba = d .lba; lam = d .lam; pba = d .pba; asn = d .asn; ssr = ssr; asm = d .asm }
 
 -- the same segment with E set

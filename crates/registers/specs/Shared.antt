@@ -33,11 +33,11 @@ abbrev pub entry : Shared → (i : ℕ) → ℕ
 entry h i = getD (h .table) i 0
 
 -- The shared registers with one of them changed.
-unfoldable pub with-entry : Shared → (i value : ℕ) → Shared
+abbrev pub with-entry : Shared → (i value : ℕ) → Shared
 with-entry h i value = record { table = set (h .table) i value; gsr = h .gsr; ivr = h .ivr; count = h .count }
 
-unfoldable pub with-gsr : Shared → Gsr → Shared
+abbrev pub with-gsr : Shared → Gsr → Shared
 with-gsr h g = record { table = h .table; gsr = g; ivr = h .ivr; count = h .count }
 
-unfoldable pub with-ivr : Shared → ℕ → Shared
+abbrev pub with-ivr : Shared → ℕ → Shared
 with-ivr h ivr = record { table = h .table; gsr = h .gsr; ivr = ivr; count = h .count }

@@ -53,19 +53,19 @@ abbrev pub ac : Unit → (i : ℕ) → ℕ
 ac u i = byte u i .value
 
 -- The unit with one of its registers changed.
-unfoldable pub with-accumulator : Unit → List Byte → Unit
+abbrev pub with-accumulator : Unit → List Byte → Unit
 with-accumulator u a = record { accumulator = a; dp = u .dp; rdp = u .rdp; l = u .l; rw = u .rw }
 
-unfoldable pub with-dp : Unit → ℕ → Unit
+abbrev pub with-dp : Unit → ℕ → Unit
 with-dp u dp = record { accumulator = u .accumulator; dp = dp; rdp = u .rdp; l = u .l; rw = u .rw }
 
-unfoldable pub with-rdp : Unit → ℕ → Unit
+abbrev pub with-rdp : Unit → ℕ → Unit
 with-rdp u rdp = record { accumulator = u .accumulator; dp = u .dp; rdp = rdp; l = u .l; rw = u .rw }
 
-unfoldable pub with-l : Unit → ℕ → Unit
+abbrev pub with-l : Unit → ℕ → Unit
 with-l u l = record { accumulator = u .accumulator; dp = u .dp; rdp = u .rdp; l = l; rw = u .rw }
 
-unfoldable pub with-rw : Unit → Bool → Unit
+abbrev pub with-rw : Unit → Bool → Unit
 with-rw u rw = record { accumulator = u .accumulator; dp = u .dp; rdp = u .rdp; l = u .l; rw = rw }
 
 abbrev pub with-byte : Unit → (i : ℕ) → Byte → Unit

@@ -9,11 +9,9 @@ use Rattle.registers.proofs.shared.Shared.with_entry.Statement.{stateme
 use Rattle.registers.proofs.shared.Shared.with_entry.Tie as tie
 
 returns : tie.Need-returns
-unfolding with-entry
 returns c = refl
 
 returns-2 : tie.Need-returns-2
-unfolding with-entry
 returns-2 c =
     let h = c .before .args .t1 in
     let l : length (h .table) ≡ 16 = search needs in

@@ -15,7 +15,7 @@ returns-2 c = rw (c .before .before .change2 .given .1) (c .with-dp .ensures)
 returns-3 : tie.Need-returns-3
 returns-3 c =
     let known = c .before .before .before .change3 .given in
-    rw (known .1, ← bit-test (known .0 .0) RW, ← c .before .with-l .ensures) (c .with-rw .ensures)
+    rw (known .1, c .with-rw .ensures, c .before .with-l .ensures, bit-test (known .0 .0) RW)
 
 returns-4 : tie.Need-returns-4
 returns-4 c = rw (c .before .before .change4 .given .1) (c .with-l2 .ensures)

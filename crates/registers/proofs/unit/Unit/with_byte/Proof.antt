@@ -10,11 +10,9 @@ use Rattle.registers.proofs.unit.Unit.with_byte.Statement.{statement}
 use Rattle.registers.proofs.unit.Unit.with_byte.Tie as tie
 
 returns : tie.Need-returns
-unfolding with-accumulator
 returns c = refl
 
 returns-2 : tie.Need-returns-2
-unfolding with-accumulator
 returns-2 c =
     let u = c .before .args .t1 in
     let l : length (u .accumulator) ≡ 9 = search (needs, counted) in
