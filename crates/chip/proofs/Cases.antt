@@ -18,5 +18,8 @@ use Rattle.chip.specs.Register.{register-at, read, write-gsr, write, ope
 use Rattle.chip.specs.Cases.{cases, all-hold}
 
 pub cases-hold : all-hold cases ≡ true
-unfolding bit field every alike agree clash gate raise lower clean used modified disabled rewritten matches clashes with-units with-shared with-descriptor each first refused granted unselected fresh start fault violation undefined match-at translate-at translate access transfer write-status send prepare load-at load result-at direct-translation register-at read write-gsr write operate register
+unfolding bit field every alike agree clash gate raise lower clean used modified disabled rewritten matches
+    clashes with-units with-shared with-descriptor each first refused granted unselected fresh start
+    fault violation undefined match-at translate-at translate access transfer write-status send prepare
+    load-at load result-at direct-translation register-at read write-gsr write operate register
 cases-hold = refl

@@ -12,4 +12,6 @@ returns-2 c = rw (c .before .enum-told .given .1) (c .report2 .ensures)
 
 pub blame-spec : {M : Type 1} → statement M
 blame-spec =
-    tie.close (tie.spec (λ c. search needs) (λ c. search needs) free (λ c. search needs) free returns returns-2)
+    tie.close
+    (tie.spec
+    (λ c. search needs) (λ c. search needs) free (λ c. search needs) free returns returns-2)

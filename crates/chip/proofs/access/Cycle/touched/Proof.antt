@@ -11,5 +11,4 @@ returns-2 : tie.Need-returns-2
 returns-2 c = rw (c .before .before .enum-told2 .given .1, c .modified .ensures, c .before .used2 .ensures)
 
 pub touched-spec : {M : Type 1} → statement M
-touched-spec =
-    tie.close (tie.spec (λ c. search needs) free (λ c. search needs) free free returns returns-2)
+touched-spec = tie.close (tie.spec (λ c. search needs) free (λ c. search needs) free free returns returns-2)

@@ -24,4 +24,7 @@ returns-6 c = rw (c .before .enum-told2 .given .1) (c .of6 .ensures)
 
 pub values-spec : {M : Type 1} → statement M
 values-spec =
-    tie.close (tie.spec (λ c. search needs) free free (λ c. search needs) free (λ c. search needs) free (λ c. search needs) free (λ c. search needs) free (λ c. search needs) free returns returns-2 returns-3 returns-4 returns-5 returns-6)
+    tie.close
+    (tie.spec
+    (λ c. search needs) free free (λ c. search needs) free (λ c. search needs) free (λ c. search needs) free
+    (λ c. search needs) free (λ c. search needs) free returns returns-2 returns-3 returns-4 returns-5 returns-6)

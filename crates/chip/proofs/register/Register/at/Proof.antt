@@ -4,54 +4,6 @@ use Rattle.chip.specs.Register.{register-at}
 use Rattle.chip.proofs.register.Register.at.Statement.{statement}
 use Rattle.chip.proofs.register.Register.at.Tie as tie
 
-returns : tie.Need-returns
-unfolding register-at
-returns c = rw (c .match .keys1)
-
-returns-2 : tie.Need-returns-2
-unfolding register-at
-returns-2 c = rw (c .match .keys2)
-
-returns-3 : tie.Need-returns-3
-unfolding register-at
-returns-3 c = rw (c .match .keys3)
-
-returns-4 : tie.Need-returns-4
-unfolding register-at
-returns-4 c = rw (c .match .keys4)
-
-returns-5 : tie.Need-returns-5
-unfolding register-at
-returns-5 c = rw (c .match .keys5)
-
-returns-6 : tie.Need-returns-6
-unfolding register-at
-returns-6 c = rw (c .match .keys6)
-
-returns-7 : tie.Need-returns-7
-unfolding register-at
-returns-7 c = rw (c .match .keys7)
-
-returns-8 : tie.Need-returns-8
-unfolding register-at
-returns-8 c = rw (c .match .keys8)
-
-returns-9 : tie.Need-returns-9
-unfolding register-at
-returns-9 c = rw (c .match .keys9)
-
-returns-10 : tie.Need-returns-10
-unfolding register-at
-returns-10 c = rw (lt-ltb _ _ (c .before .if1 .taken), eq-eqb _ _ (c .if2 .taken))
-
-returns-11 : tie.Need-returns-11
-unfolding register-at
-returns-11 c = rw (lt-ltb _ _ (c .before .if1 .taken), ne-eqb _ _ (c .if2 .left))
-
-returns-12 : tie.Need-returns-12
-unfolding register-at
-returns-12 c = rw (le-ltb _ _ (c .before .if1 .left), lt-ltb _ _ (c .if3 .taken))
-
 returns-13 : tie.Need-returns-13
 unfolding register-at
 returns-13 c =
@@ -71,5 +23,20 @@ returns-13 c =
     )
 
 pub at-spec : {M : Type 1} → statement M
+unfolding register-at
 at-spec =
-    tie.close (tie.spec returns returns-2 returns-3 returns-4 returns-5 returns-6 returns-7 returns-8 returns-9 returns-10 returns-11 returns-12 returns-13)
+    tie.close
+    (tie.spec
+    (λ c. rw (c .match .keys1))
+    (λ c. rw (c .match .keys2))
+    (λ c. rw (c .match .keys3))
+    (λ c. rw (c .match .keys4))
+    (λ c. rw (c .match .keys5))
+    (λ c. rw (c .match .keys6))
+    (λ c. rw (c .match .keys7))
+    (λ c. rw (c .match .keys8))
+    (λ c. rw (c .match .keys9))
+    (λ c. rw (lt-ltb _ _ (c .before .if1 .taken), eq-eqb _ _ (c .if2 .taken)))
+    (λ c. rw (lt-ltb _ _ (c .before .if1 .taken), ne-eqb _ _ (c .if2 .left)))
+    (λ c. rw (le-ltb _ _ (c .before .if1 .left), lt-ltb _ _ (c .if3 .taken)))
+    returns-13)

@@ -8,4 +8,6 @@ returns c = rw (c .before .self .given .1)
 
 pub number-spec : {M : Type 1} → statement M
 number-spec =
-    tie.close (tie.spec (λ c. search needs) (λ c. search needs) (λ c. search needs) returns (λ c. search needs))
+    tie.close
+    (tie.spec
+    (λ c. search needs) (λ c. search needs) (λ c. search needs) returns (λ c. search needs))

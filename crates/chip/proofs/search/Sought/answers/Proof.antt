@@ -14,11 +14,16 @@ returns-2 c =
     (and-taken (c .before .before .enabled .ensures) (c .before .if1 .taken) (c .clashes .ensures))
 
 returns-3 : tie.Need-returns-3
-returns-3 c = rw (c .before .before .before .self2 .given .1) (and-left _ (c .before .enabled .ensures) (c .if1 .left))
+returns-3 c =
+    rw (c .before .before .before .self2 .given .1)
+    (and-left _ (c .before .enabled .ensures) (c .if1 .left))
 
 returns-4 : tie.Need-returns-4
 returns-4 c = rw (c .before .enum-told .given .1) (c .pending .ensures)
 
 pub answers-spec : {M : Type 1} → statement M
 answers-spec =
-    tie.close (tie.spec (λ c. search needs) free (λ c. search needs) free free (λ c. search needs) free returns returns-2 returns-3 returns-4)
+    tie.close
+    (tie.spec
+    (λ c. search needs) free (λ c. search needs) free free (λ c. search needs) free returns returns-2 returns-3
+    returns-4)

@@ -38,5 +38,4 @@ returns-4 c =
     (c .translate .ensures)
 
 pub access-spec : {M : Type 1} → statement M
-access-spec =
-    tie.close (tie.spec free free returns free returns-2 free returns-3 (λ c κs. search needs) returns-4)
+access-spec = tie.close (tie.spec free free returns free returns-2 free returns-3 (λ c κs. search needs) returns-4)

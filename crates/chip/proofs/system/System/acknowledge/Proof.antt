@@ -38,5 +38,4 @@ returns-4 c =
     (c .granted .ensures)
 
 pub acknowledge-spec : {M : Type 1} → statement M
-acknowledge-spec =
-    tie.close (tie.spec free free returns free returns-2 free free returns-3 free returns-4)
+acknowledge-spec = tie.close (tie.spec free free returns free returns-2 free free returns-3 free returns-4)

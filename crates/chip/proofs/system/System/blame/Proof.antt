@@ -45,4 +45,7 @@ returns c =
 
 pub blame-spec : {M : Type 1} → statement M
 blame-spec =
-    tie.close (tie.spec Inv-loop μ-loop free loop-holds (λ c κs. omega arith) (λ c. omega arith) (λ c. omega arith) free (λ c. omega arith) (λ c. omega arith) (λ c. omega arith) (λ c. omega arith) loop-again returns)
+    tie.close
+    (tie.spec
+    Inv-loop μ-loop free loop-holds (λ c κs. omega arith) (λ c. omega arith) (λ c. omega arith) free
+    (λ c. omega arith) (λ c. omega arith) (λ c. omega arith) (λ c. omega arith) loop-again returns)

@@ -15,5 +15,4 @@ returns-2 : tie.Need-returns-2
 returns-2 c = and-left _ (c .before .enabled .ensures) (c .if1 .left)
 
 pub collision-spec : {M : Type 1} → statement M
-collision-spec =
-    tie.close (tie.spec free free free returns returns-2)
+collision-spec = tie.close (tie.spec free free free returns returns-2)

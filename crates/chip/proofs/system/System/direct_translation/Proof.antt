@@ -41,4 +41,7 @@ returns-2 c =
 
 pub direct-translation-spec : {M : Type 1} → statement M
 direct-translation-spec =
-    tie.close (tie.spec (λ c κs. search needs) (λ c κs. search needs) (λ c κs. search needs) (λ c κs. search needs) free (λ c. search needs) translated-at-requires (λ c. search needs) free returns returns-2)
+    tie.close
+    (tie.spec
+    (λ c κs. search needs) (λ c κs. search needs) (λ c κs. search needs) (λ c κs. search needs) free
+    (λ c. search needs) translated-at-requires (λ c. search needs) free returns returns-2)

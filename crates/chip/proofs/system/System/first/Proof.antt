@@ -35,4 +35,7 @@ returns-2 c = sym (first-nowhere _ _ _ (λ k a b. c .before .loop .inv .2 k a (o
 
 pub first-spec : {M : Type 1} → statement M
 first-spec =
-    tie.close (tie.spec Inv-loop μ-loop (λ c. omega arith) loop-holds (λ c. omega arith) (λ c. omega arith) free returns (λ c. omega arith) (λ c. omega arith) loop-again returns-2)
+    tie.close
+    (tie.spec
+    Inv-loop μ-loop (λ c. omega arith) loop-holds (λ c. omega arith) (λ c. omega arith) free returns
+    (λ c. omega arith) (λ c. omega arith) loop-again returns-2)

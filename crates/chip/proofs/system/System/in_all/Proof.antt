@@ -33,4 +33,7 @@ returns c =
 
 pub in-all-spec : {M : Type 1} → statement M
 in-all-spec =
-    tie.close (tie.spec Inv-loop μ-loop free loop-holds (λ c. omega arith) (λ c. omega arith) free (λ c. omega arith) (λ c. omega arith) (λ c. omega arith) (λ c. omega arith) loop-again returns)
+    tie.close
+    (tie.spec
+    Inv-loop μ-loop free loop-holds (λ c. omega arith) (λ c. omega arith) free (λ c. omega arith) (λ c. omega arith)
+    (λ c. omega arith) (λ c. omega arith) loop-again returns)

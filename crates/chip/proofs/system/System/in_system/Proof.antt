@@ -8,4 +8,7 @@ returns : tie.Need-returns
 returns c = rw (← c .before .present .ensures) (c .first .ensures)
 
 pub in-system-spec : {M : Type 1} → statement M
-in-system-spec = tie.close (tie.spec free (λ c. omega (arith, c .present .ensures)) (λ c κs. omega (arith, c .present .ensures)) returns)
+in-system-spec =
+    tie.close
+    (tie.spec
+    free (λ c. omega (arith, c .present .ensures)) (λ c κs. omega (arith, c .present .ensures)) returns)

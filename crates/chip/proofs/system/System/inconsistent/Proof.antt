@@ -38,4 +38,7 @@ returns-2 c =
 
 pub inconsistent-spec : {M : Type 1} → statement M
 inconsistent-spec =
-    tie.close (tie.spec Inv-loop μ-loop free loop-holds (λ c. omega arith) (λ c. omega arith) free returns (λ c. omega arith) (λ c. omega arith) loop-again returns-2)
+    tie.close
+    (tie.spec
+    Inv-loop μ-loop free loop-holds (λ c. omega arith) (λ c. omega arith) free returns (λ c. omega arith)
+    (λ c. omega arith) loop-again returns-2)

@@ -36,4 +36,6 @@ returns-2 c =
 
 pub load-at-spec : {M : Type 1} → statement M
 load-at-spec =
-    tie.close (tie.spec (λ c κs. search needs) free free (λ c κs. search needs) free free returns (λ c κs. search needs) free returns-2)
+    tie.close
+    (tie.spec
+    (λ c κs. search needs) free free (λ c κs. search needs) free free returns (λ c κs. search needs) free returns-2)

@@ -36,4 +36,7 @@ returns-2 c =
 
 pub match-at-spec : {M : Type 1} → statement M
 match-at-spec =
-    tie.close (tie.spec (λ c κs. search needs) (λ c. search needs) (λ c. search needs) free free (λ c κs. search needs) free returns free free free free (λ c κs. search needs) free returns-2)
+    tie.close
+    (tie.spec
+    (λ c κs. search needs) (λ c. search needs) (λ c. search needs) free free (λ c κs. search needs) free returns
+    free free free free (λ c κs. search needs) free returns-2)

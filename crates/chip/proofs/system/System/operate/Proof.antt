@@ -15,4 +15,7 @@ returns-2 c = rw (c .before .before .before .operation .given .1, c .granted2 .e
 
 pub operate-spec : {M : Type 1} → statement M
 operate-spec =
-    tie.close (tie.spec (λ c. search needs) (λ c κs. search needs) free (λ c. search needs) (λ c κs. search needs) free returns returns-2)
+    tie.close
+    (tie.spec
+    (λ c. search needs) (λ c κs. search needs) free (λ c. search needs) (λ c κs. search needs) free returns
+    returns-2)

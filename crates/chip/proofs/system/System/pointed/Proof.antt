@@ -7,4 +7,7 @@ returns : tie.Need-returns
 returns c = rw (c .before .unit .ensures)
 
 pub pointed-spec : {M : Type 1} → statement M
-pointed-spec = tie.close (tie.spec (λ c κs. search needs) (λ c. search needs) (λ c. search needs) (λ c. search needs) returns)
+pointed-spec =
+    tie.close
+    (tie.spec
+    (λ c κs. search needs) (λ c. search needs) (λ c. search needs) (λ c. search needs) returns)

@@ -45,5 +45,4 @@ returns-4 c =
     )
 
 pub register-spec : {M : Type 1} → statement M
-register-spec =
-    tie.close (tie.spec free free returns free returns-2 free returns-3 free operate-requires returns-4)
+register-spec = tie.close (tie.spec free free returns free returns-2 free returns-3 free operate-requires returns-4)

@@ -61,4 +61,7 @@ returns-4 c =
 
 pub start-spec : {M : Type 1} → statement M
 start-spec =
-    tie.close (tie.spec free free returns (λ c. search needs) free free (λ c. search needs) mul-i free free with-descriptor-requires free free returns-2 returns-3 returns-4)
+    tie.close
+    (tie.spec
+    free free returns (λ c. search needs) free free (λ c. search needs) mul-i free free with-descriptor-requires
+    free free returns-2 returns-3 returns-4)

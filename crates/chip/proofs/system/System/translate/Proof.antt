@@ -31,4 +31,7 @@ returns-2 c =
 
 pub translate-spec : {M : Type 1} → statement M
 translate-spec =
-    tie.close (tie.spec (λ c. search needs) (λ c. search needs) (λ c. search needs) free (λ c. search needs) match-at-requires (λ c. search needs) free free returns returns-2)
+    tie.close
+    (tie.spec
+    (λ c. search needs) (λ c. search needs) (λ c. search needs) free (λ c. search needs) match-at-requires
+    (λ c. search needs) free free returns returns-2)

@@ -30,5 +30,4 @@ returns-2 c =
     )
 
 pub write-gsr-spec : {M : Type 1} → statement M
-write-gsr-spec =
-    tie.close (tie.spec free free free free returns returns-2)
+write-gsr-spec = tie.close (tie.spec free free free free returns returns-2)

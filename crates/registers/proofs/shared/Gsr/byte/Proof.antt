@@ -22,4 +22,7 @@ returns c = rw (flag-byte, flag-byte, flag-byte)
 
 pub byte-spec : {M : Type 1} → statement M
 byte-spec =
-    tie.close (tie.spec (λ c. search needs) mul-result (λ c. search needs) mul-result-2 add-result (λ c. search needs) add-result-2 returns)
+    tie.close
+    (tie.spec
+    (λ c. search needs) mul-result (λ c. search needs) mul-result-2 add-result (λ c. search needs) add-result-2
+    returns)

@@ -31,4 +31,8 @@ returns-7 c = rw (c .before .before .change7 .given .1) (c .report .ensures)
 
 pub change-spec : {M : Type 1} → statement M
 change-spec =
-    tie.close (tie.spec (λ c. search needs) free (λ c. search needs) free (λ c. search needs) free free (λ c. search needs) free (λ c. search needs) free (λ c. search needs) free (λ c. search needs) free returns returns-2 returns-3 returns-4 returns-5 returns-6 returns-7)
+    tie.close
+    (tie.spec
+    (λ c. search needs) free (λ c. search needs) free (λ c. search needs) free free (λ c. search needs) free
+    (λ c. search needs) free (λ c. search needs) free (λ c. search needs) free returns returns-2 returns-3 returns-4
+    returns-5 returns-6 returns-7)

@@ -11,5 +11,4 @@ returns-2 : tie.Need-returns-2
 returns-2 c = rw (c .before .enum-told2 .given .1) (c .gal .ensures)
 
 pub consistent-spec : {M : Type 1} → statement M
-consistent-spec =
-    tie.close (tie.spec (λ c. search needs) free (λ c. search needs) free returns returns-2)
+consistent-spec = tie.close (tie.spec (λ c. search needs) free (λ c. search needs) free returns returns-2)

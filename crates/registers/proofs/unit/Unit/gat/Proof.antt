@@ -8,5 +8,4 @@ returns : tie.Need-returns
 returns c = simp (and-assoc, and-true)
 
 pub gat-spec : {M : Type 1} → statement M
-gat-spec =
-    tie.close (tie.spec (λ c. search needs) (λ c. search needs) (λ c. search needs) returns)
+gat-spec = tie.close (tie.spec (λ c. search needs) (λ c. search needs) (λ c. search needs) returns)

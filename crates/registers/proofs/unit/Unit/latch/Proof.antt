@@ -5,8 +5,15 @@ use Rattle.registers.proofs.unit.Unit.latch.Statement.{statement}
 use Rattle.registers.proofs.unit.Unit.latch.Tie as tie
 
 returns : tie.Need-returns
-returns c = rw (c .with-byte3 .ensures, c .before .local3 .ensures, c .before .before .with-byte2 .ensures, c .before .before .before .local2 .ensures, c .before .before .before .before .with-byte .ensures, c .before .before .before .before .before .local .ensures)
+returns c =
+    rw (
+      c .with-byte3 .ensures,
+      c .before .local3 .ensures,
+      c .before .before .with-byte2 .ensures,
+      c .before .before .before .local2 .ensures,
+      c .before .before .before .before .with-byte .ensures,
+      c .before .before .before .before .before .local .ensures,
+    )
 
 pub latch-spec : {M : Type 1} → statement M
-latch-spec =
-    tie.close (tie.spec (λ c. search needs) free free (λ c. search needs) free free free free returns)
+latch-spec = tie.close (tie.spec (λ c. search needs) free free (λ c. search needs) free free free free returns)

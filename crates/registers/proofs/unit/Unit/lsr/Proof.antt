@@ -32,4 +32,7 @@ returns c = rw (← c .before .gat .ensures, ← c .gal .ensures, flag-byte, fla
 
 pub lsr-spec : {M : Type 1} → statement M
 lsr-spec =
-    tie.close (tie.spec (λ c. search needs) (λ c. search needs) mul-result-2 add-result free (λ c. search needs) mul-result-3 add-result-2 free (λ c. search needs) mul-result-4 add-result-3 (λ c. search needs) add-result-4 returns)
+    tie.close
+    (tie.spec
+    (λ c. search needs) (λ c. search needs) mul-result-2 add-result free (λ c. search needs) mul-result-3
+    add-result-2 free (λ c. search needs) mul-result-4 add-result-3 (λ c. search needs) add-result-4 returns)
