@@ -12,7 +12,8 @@ use Rattle.chip.specs.Answer.{refused, granted}
 use Rattle.chip.specs.Reset.{unselected, fresh, start}
 use Rattle.chip.specs.Access.{fault, violation, undefined, match-at, translate-at, translate, access}
 use Rattle.chip.specs.Transfer.{transfer, write-status}
-use Rattle.chip.specs.Load.{send, prepare, load-at, load}
+use Rattle.chip.specs.Prepare.{send, prepare}
+use Rattle.chip.specs.Load.{load-at, load}
 use Rattle.chip.specs.Translation.{result-at, direct-translation}
 use Rattle.chip.specs.Register.{register-at, read, write-gsr, write, operate, register}
 use Rattle.chip.specs.Cases.{cases, all-hold}

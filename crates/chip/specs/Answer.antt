@@ -11,6 +11,7 @@ use Rattle.chip.specs.declared.answer.Answer.{Answer}
 use Rattle.chip.specs.declared.answer.Answer.the-variants.{Refused, Done, Byte, Mapped, Violation, Undefined}
 use Rattle.chip.specs.declared.answer.Values.{Values}
 use Rattle.chip.specs.declared.answer.Outcome.{Outcome}
+use Rattle.chip.specs.declared.answer.Reading.{Reading}
 
 -- the number of a refusal
 abbrev pub number : Refusal → ℕ
@@ -59,6 +60,10 @@ refused r s = record { answer = Refused r; irq = false; system = s }
 -- any other answer gives IRQ as it stands after the call
 unfoldable pub granted : Answer → System → Outcome
 granted a s = record { answer = a; irq = irq s; system = s }
+
+-- a read that answers this byte and leaves this system
+abbrev pub reading : (byte : ℕ) → System → Reading
+reading byte s = record { byte = byte; system = s }
 
 -- the checks of a call in their order, each a refusal and when it is given: the first that applies
 -- decides, and where none does the call goes on

@@ -4,6 +4,7 @@ pub mod Answer
 pub mod Reset
 pub mod Access
 pub mod Transfer
+pub mod Prepare
 pub mod Load
 pub mod Translation
 pub mod Acknowledge

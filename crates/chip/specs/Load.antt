@@ -4,31 +4,16 @@ use mathlib.Core.Bool.{Bool, not, _&&_, cond}
 use mathlib.Core.List.{List, [], _∷_}
 use Rattle.descriptors.specs.Descriptor.{enabled, collides, disable}
 use Rattle.registers.specs.Unit.{NO, LD, none, ac, write-ac, report, for-load, consistent, segment}
-use Rattle.chip.specs.System.{present, unit, descriptor, with-descriptor, in-each, in-all}
+use Rattle.chip.specs.System.{present, unit, descriptor, pointed, with-descriptor, in-each, in-all}
 use Rattle.chip.specs.Search.{first, found, in-system, in-unit}
-use Rattle.chip.specs.Transfer.{pointed, reading}
+use Rattle.chip.specs.Answer.{reading}
+use Rattle.chip.specs.Prepare.{prepare}
 use Rattle.descriptors.specs.declared.descriptor.Descriptor.{Descriptor}
 use Rattle.registers.specs.declared.unit.Unit.{Unit}
 use Rattle.chip.specs.declared.system.System.{System}
 use Rattle.chip.specs.declared.search.Found.{Found}
 use Rattle.chip.specs.declared.search.Found.the-variants.{At, Nowhere}
-use Rattle.chip.specs.declared.transfer.Reading.{Reading}
-
--- 3.2.4: some unit's accumulator is not globally consistent in these bytes
-abbrev pub inconsistent : List ℕ → System → Bool
-inconsistent bytes s = found (first (λ m. not (consistent bytes (unit s m))) 0 (present s))
-
--- AC i of unit m goes to all units, as by a global write
-unfoldable pub send : (i m : ℕ) → System → System
-send i m s = in-all (write-ac i (ac (unit s m) i)) s
-
-abbrev pub send-all : List ℕ → (m : ℕ) → System → System
-send-all [] m s = s
-send-all (i ∷ is) m s = send-all is m (send i m s)
-
--- before a load and a direct translation they do, where some unit needs it (rulings 2 and 3)
-unfoldable pub prepare : List ℕ → (m : ℕ) → System → System
-prepare bytes m s = cond (inconsistent bytes s) (send-all bytes m s) s
+use Rattle.chip.specs.declared.answer.Reading.{Reading}
 
 -- a unit's part in a refused load: LD and the descriptor that it collides with, or none
 abbrev pub blame : Found → Unit → Unit

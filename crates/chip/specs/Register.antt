@@ -7,12 +7,12 @@ use Rattle.registers.specs.Unit.{NO, ac, lsr, write-ac, write-dp, write-lsr, wi
 use Rattle.registers.specs.Shared.{entry, gsr-of, gsr-byte, with-entry, with-gsr, with-ivr}
 use Rattle.chip.specs.System.{unit, with-shared, in-all}
 use Rattle.chip.specs.Search.{lip, idp}
-use Rattle.chip.specs.Answer.{granted, checked, miscounted, absent}
-use Rattle.chip.specs.Transfer.{reading, transfer, write-status}
+use Rattle.chip.specs.Answer.{granted, reading, checked, miscounted, absent}
+use Rattle.chip.specs.Transfer.{transfer, write-status}
 use Rattle.chip.specs.Load.{load}
 use Rattle.chip.specs.Translation.{direct-translation}
 use Rattle.chip.specs.declared.system.System.{System}
-use Rattle.chip.specs.declared.transfer.Reading.{Reading}
+use Rattle.chip.specs.declared.answer.Reading.{Reading}
 use Rattle.chip.specs.declared.register.Register.{Register}
 use Rattle.chip.specs.declared.register.Register.the-variants.{Ast, Ac, Dp, Ivr, Gsr, Lsr, Ssr, Idp, Rdp, DirectTranslation, LoadDescriptor, Null}
 use Rattle.chip.specs.declared.register.Operation.{Operation}

@@ -1,5 +1,5 @@
 -- One to six units on one board: handbook 4.2, document 01 "What the model covers".
-use Prim.Native.Nat.{ℕ, suc, zero, min}
+use Prim.Native.Nat.{ℕ, suc, zero, _+_, _*_, _%_, min}
 use mathlib.Core.List.{List, [], _∷_}
 use lib.ListN.{getD, set}
 use Rattle.descriptors.specs.Descriptor.{zeros}
@@ -21,6 +21,10 @@ unit s m = getD (s .units) m no-unit
 -- the descriptor at place i of the 192: descriptor i % 32 of unit i / 32
 abbrev pub descriptor : System → (i : ℕ) → Descriptor
 descriptor s i = getD (s .descriptors) i zeros
+
+-- 3.2.5: the place that the DP of unit m points at
+abbrev pub pointed : (m : ℕ) → System → ℕ
+pointed m s = 32 * m + unit s m .dp % 32
 
 -- The system with one part changed.
 unfoldable pub with-units : System → List Unit → System

@@ -4,12 +4,12 @@ use Rattle.descriptors.specs.Descriptor.{physical-page}
 use Rattle.registers.specs.Unit.{NO, none, ac, word, report, translated, for-translation}
 use Rattle.chip.specs.System.{unit, descriptor, with-unit, in-all}
 use Rattle.chip.specs.Search.{matching}
-use Rattle.chip.specs.Transfer.{reading}
-use Rattle.chip.specs.Load.{prepare}
+use Rattle.chip.specs.Answer.{reading}
+use Rattle.chip.specs.Prepare.{prepare}
 use Rattle.chip.specs.declared.system.System.{System}
 use Rattle.chip.specs.declared.search.Found.{Found}
 use Rattle.chip.specs.declared.search.Found.the-variants.{At, Nowhere}
-use Rattle.chip.specs.declared.transfer.Reading.{Reading}
+use Rattle.chip.specs.declared.answer.Reading.{Reading}
 
 -- the result, where the matching descriptor was found: L4-L7 are cleared in every other unit
 unfoldable pub result-at : Found → (page : ℕ) → System → Reading

@@ -1,6 +1,6 @@
 // The answers, and document 01's number and values for each.
 ghost use mathlib.Core.Path.{_≡_};
-ghost use Rattle.chip.specs.Answer.{number, of-kind, values, refused, granted, miscounted};
+ghost use Rattle.chip.specs.Answer.{number, of-kind, values, refused, granted, reading, miscounted};
 use crate::system::System;
 
 // What a host gets back in place of an answer.
@@ -57,6 +57,12 @@ pub struct Values {
 pub struct Outcome {
     pub answer: Answer,
     pub irq: bool,
+    pub system: System,
+}
+
+// The byte that a read answers, and the whole system after it.
+pub struct Reading {
+    pub byte: u8,
     pub system: System,
 }
 
@@ -163,5 +169,11 @@ impl System {
             irq: self.irq(),
             system: self,
         }
+    }
+
+    pub(crate) fn reading(self, byte: u8) -> Reading
+        ensures { λ r. ⌜ r ≡ reading byte self ⌝ }
+    {
+        Reading { byte, system: self }
     }
 }

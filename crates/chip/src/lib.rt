@@ -2,6 +2,7 @@ pub mod access;
 pub mod acknowledge;
 pub mod answer;
 pub mod load;
+pub mod prepare;
 pub mod register;
 pub mod reset;
 pub mod search;

@@ -1,15 +1,14 @@
 // The registers by their addresses (handbook 4.6.1, Table 4-3).
 ghost use mathlib.Core.Path.{_≡_};
 ghost use Prim.Native.Nat.{_<_};
-ghost use Rattle.chip.specs.Transfer.{reading};
 ghost use Rattle.chip.specs.Register.{register-at, read, write, write-gsr, operate, register};
 use crate::answer;
 use crate::answer::Answer;
 use crate::answer::Outcome;
+use crate::answer::Reading;
 use crate::answer::Refusal;
 use crate::search::Sought;
 use crate::system::System;
-use crate::transfer::Reading;
 use registers::shared::Gsr;
 use registers::unit;
 use registers::unit::Change;
@@ -65,12 +64,6 @@ impl Register {
 }
 
 impl System {
-    fn reading(self, byte: u8) -> Reading
-        ensures { λ r. ⌜ r ≡ reading byte self ⌝ }
-    {
-        Reading { byte, system: self }
-    }
-
     // 4.6.2.2, and the operations that a read designates.
     fn read(self, register: Register, m: usize) -> Reading
         requires { ⌜ m < 6 ⌝ }

@@ -1,7 +1,7 @@
 // One to six units on one board: 32 descriptors for each, in one array, and what the units share (handbook 4.2).
 ghost use mathlib.Core.Path.{_≡_};
 ghost use Prim.Native.Nat.{_<_};
-ghost use Rattle.chip.specs.System.{present, unit, descriptor, with-shared, with-descriptor, with-unit, in-all};
+ghost use Rattle.chip.specs.System.{present, unit, descriptor, with-shared, with-descriptor, pointed, with-unit, in-all};
 ghost use Rattle.registers.specs.Change.{changed};
 use descriptors::descriptor::Descriptor;
 use registers::shared::Shared;
@@ -57,6 +57,15 @@ impl System {
     {
         self.shared = shared;
         self
+    }
+
+    // 3.2.5: where the unit's DP points.
+    pub(crate) fn pointed(self, m: usize) -> usize
+        requires { ⌜ m < 6 ⌝ }
+        ensures { λ r. ⌜ r ≡ pointed m self ⌝ }
+    {
+        let unit = self.unit(m);
+        32 * m + (unit.dp % 32) as usize
     }
 
     // 4.6.3: in all units at once.

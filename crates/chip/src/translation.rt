@@ -2,10 +2,10 @@
 ghost use mathlib.Core.Path.{_≡_};
 ghost use Prim.Native.Nat.{_<_};
 ghost use Rattle.chip.specs.Translation.{result-at, direct-translation};
+use crate::answer::Reading;
 use crate::search::Found;
 use crate::search::Sought;
 use crate::system::System;
-use crate::transfer::Reading;
 use registers::unit;
 use registers::unit::Bytes;
 use registers::unit::Change;

@@ -2,7 +2,7 @@
 use borrow.Author.Needs.{needs}
 use mathlib.Core.Path.{sym, _∙_}
 use borrow.Author.Tests.{not-true, not-false}
-use Rattle.chip.specs.Load.{prepare}
+use Rattle.chip.specs.Prepare.{prepare}
 use Rattle.masks.proofs.Free.{free}
 use Rattle.chip.proofs.system.System.prepare.Statement.{statement}
 use Rattle.chip.proofs.system.System.prepare.Tie as tie

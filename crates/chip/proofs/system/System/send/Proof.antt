@@ -1,5 +1,5 @@
 -- `System::send` meets its contract. Assumes nothing.
-use Rattle.chip.specs.Load.{send}
+use Rattle.chip.specs.Prepare.{send}
 use borrow.Author.Needs.{needs}
 use Rattle.masks.proofs.Free.{free}
 use Rattle.chip.proofs.system.System.send.Statement.{statement}
