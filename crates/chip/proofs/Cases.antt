@@ -3,9 +3,7 @@ use mathlib.Core.Path.{_≡_, refl}
 use mathlib.Core.Bool.{true}
 use Rattle.masks.specs.Fields.{bit, field, every, alike, agree, clash, gate}
 use Rattle.descriptors.specs.Status.{raise, lower, clean, used, modified, disabled, rewritten}
-use Rattle.descriptors.specs.Descriptor.{matches, with-ssr, clashes}
-use Rattle.registers.specs.Unit.{with-accumulator, with-dp, with-rdp, with-l, with-rw}
-use Rattle.registers.specs.Shared.{with-entry, with-gsr, with-ivr}
+use Rattle.descriptors.specs.Descriptor.{matches, clashes}
 use Rattle.chip.specs.System.{with-units, with-shared, with-descriptor, each}
 use Rattle.chip.specs.Search.{first}
 use Rattle.chip.specs.Answer.{refused, granted}

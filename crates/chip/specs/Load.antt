@@ -1,11 +1,10 @@
 -- Load descriptor: handbook 4.6.3.2.
 use Prim.Native.Nat.{ℕ, _%_}
-use mathlib.Core.Bool.{Bool, not, _&&_, cond}
-use mathlib.Core.List.{List, [], _∷_}
+use mathlib.Core.Bool.{Bool, _&&_, cond}
 use Rattle.descriptors.specs.Descriptor.{enabled, collides, disable}
-use Rattle.registers.specs.Unit.{NO, LD, none, ac, write-ac, report, for-load, consistent, segment}
-use Rattle.chip.specs.System.{present, unit, descriptor, pointed, with-descriptor, in-each, in-all}
-use Rattle.chip.specs.Search.{first, found, in-system, in-unit}
+use Rattle.registers.specs.Unit.{NO, LD, none, report, for-load, segment}
+use Rattle.chip.specs.System.{unit, descriptor, pointed, with-descriptor, in-each, in-all}
+use Rattle.chip.specs.Search.{found, in-system, in-unit}
 use Rattle.chip.specs.Answer.{reading}
 use Rattle.chip.specs.Prepare.{prepare}
 use Rattle.descriptors.specs.declared.descriptor.Descriptor.{Descriptor}

@@ -9,7 +9,7 @@ use Rattle.masks.specs.Fields.{clash}
 use Rattle.masks.proofs.Bits.{bit-field}
 use Rattle.masks.proofs.Laws.{clash-exists}
 use Rattle.descriptors.specs.Status.{raise}
-use Rattle.descriptors.specs.Descriptor.{enabled, range-match, space-match, matches, with-ssr, enable, Clash, clashes}
+use Rattle.descriptors.specs.Descriptor.{enabled, range-match, space-match, matches, enable, Clash, clashes}
 use Rattle.descriptors.specs.declared.descriptor.Descriptor.{Descriptor}
 
 -- with E set, a match is a range match and a space match

@@ -4,7 +4,6 @@ use mathlib.Core.Path.{_≡_, refl}
 use native.Mathlib.Omega.{arith}
 use lib.ListN.{length}
 use lib.Seq.{set-out}
-use Rattle.registers.specs.Shared.{with-entry}
 use Rattle.registers.proofs.shared.Shared.with_entry.Statement.{statement}
 use Rattle.registers.proofs.shared.Shared.with_entry.Tie as tie
 

@@ -1,5 +1,4 @@
 -- `Unit::take` meets its contract. Assumes nothing.
-use Rattle.registers.specs.Unit.{with-accumulator}
 use borrow.Author.Needs.{needs}
 use Rattle.masks.proofs.Free.{free}
 use Rattle.registers.proofs.unit.Unit.take.Statement.{statement}

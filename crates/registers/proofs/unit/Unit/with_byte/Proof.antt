@@ -3,7 +3,6 @@ use mathlib.Core.Path.{_≡_, refl}
 use native.Mathlib.Omega.{arith}
 use lib.ListN.{length}
 use lib.Seq.{set-out}
-use Rattle.registers.specs.Unit.{with-accumulator}
 use Rattle.registers.proofs.Numbers.{counted}
 use borrow.Author.Needs.{needs}
 use Rattle.registers.proofs.unit.Unit.with_byte.Statement.{statement}
