@@ -9,4 +9,5 @@ pub mod Load
 pub mod Translation
 pub mod Acknowledge
 pub mod Register
+pub mod Call
 pub mod Cases

@@ -1,6 +1,7 @@
 pub mod access;
 pub mod acknowledge;
 pub mod answer;
+pub mod call;
 pub mod load;
 pub mod prepare;
 pub mod register;
