@@ -5,7 +5,7 @@ use mathlib.Core.List.{[], _∷_}
 use lib.ListN.{replicate}
 use Rattle.descriptors.specs.Descriptor.{zeros}
 use Rattle.registers.specs.Unit.{NO, none, local, report}
-use Rattle.chip.specs.System.{with-descriptor, in-all}
+use Rattle.chip.specs.System.{with-descriptor, with-shared, in-all}
 use Rattle.chip.specs.Answer.{granted, checked, miscounted, absent}
 use Rattle.descriptors.specs.declared.descriptor.Descriptor.{Descriptor}
 use Rattle.registers.specs.declared.unit.Unit.{Unit}
@@ -25,11 +25,17 @@ blank = record { accumulator = replicate 9 (local 0); dp = 0; rdp = 0; l = 0; rw
 abbrev pub uninitialized : (count : ℕ) → Shared
 uninitialized count = record { table = replicate 16 0; gsr = record { f = false; df = false; ie = false }; ivr = 0x0F; count = count }
 
+-- before the first start: no unit, every register zero
+abbrev pub nothing : System
+nothing = record {
+  descriptors = replicate 192 zeros;
+  units = replicate 6 blank;
+  shared = record { table = replicate 16 0; gsr = record { f = false; df = false; ie = false }; ivr = 0; count = 0 };
+}
+
 -- every descriptor is disabled (and zero); in each unit there is the RDP is $80
 unfoldable pub unselected : (count : ℕ) → System
-unselected count =
-    in-all (report NO none)
-    (record { descriptors = replicate 192 zeros; units = replicate 6 blank; shared = uninitialized count })
+unselected count = in-all (report NO none) (with-shared nothing (uninitialized count))
 
 -- descriptor 0 of the selected MMU: LAM and ASN $00, ASM $FF, the enable bit set
 abbrev pub identity : Descriptor

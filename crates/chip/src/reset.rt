@@ -1,7 +1,7 @@
 // Start and reset (handbook 4.5.1).
 ghost use mathlib.Core.Path.{_≡_};
 ghost use Rattle.descriptors.specs.Descriptor.{zeros};
-ghost use Rattle.chip.specs.Reset.{blank, uninitialized, unselected, identity, start, reset};
+ghost use Rattle.chip.specs.Reset.{blank, uninitialized, nothing, unselected, identity, start, reset};
 use crate::answer;
 use crate::answer::Answer;
 use crate::answer::Outcome;
@@ -84,20 +84,39 @@ fn uninitialized(count: usize) -> Shared
 }
 
 impl System {
-    fn unselected(count: usize) -> System
-        ensures { λ r. ⌜ r ≡ unselected count ⌝ }
+    // Before the first start.
+    pub fn nothing() -> System
+        ensures { λ r. ⌜ r ≡ nothing ⌝ }
     {
         let descriptor = zeros();
         let descriptors = [descriptor; 192];
         let unit = blank();
         let units = [unit; 6];
-        let shared = uninitialized(count);
-        let system = System {
+        let table = [0u8; 16];
+        let gsr = Gsr {
+            f: false,
+            df: false,
+            ie: false,
+        };
+        let shared = Shared {
+            table,
+            gsr,
+            ivr: 0,
+            count: 0,
+        };
+        System {
             descriptors,
             units,
             shared,
-        };
-        system.in_all(Change::Report(unit::NO, unit::NONE))
+        }
+    }
+
+    fn unselected(count: usize) -> System
+        ensures { λ r. ⌜ r ≡ unselected count ⌝ }
+    {
+        System::nothing()
+            .with_shared(uninitialized(count))
+            .in_all(Change::Report(unit::NO, unit::NONE))
     }
 
     // Refusals 1 and 2.

@@ -22,7 +22,7 @@ pub const WV: u8 = 0b1100;
 // 3.2.6, 3.2.7: no valid result, no valid interrupt.
 pub const NONE: u8 = 0x80;
 
-const RW: u8 = 1 << 3;
+pub const RW: u8 = 1 << 3;
 
 // A byte of the accumulator, and whether it was last modified as a result of a global write (3.2.4).
 pub struct Byte {

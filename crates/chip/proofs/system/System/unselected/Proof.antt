@@ -9,9 +9,9 @@ unfolding unselected
 returns c =
     rw (
       c .in-all .ensures,
-      c .before .uninitialized .ensures,
-      c .before .before .blank .ensures,
-      c .before .before .before .zeros .ensures,
+      c .before .with-shared .ensures,
+      c .before .before .uninitialized .ensures,
+      c .before .before .before .nothing .ensures,
     )
 
 pub unselected-spec : {M : Type 1} → statement M

@@ -1,0 +1,24 @@
+-- `descriptor_of` meets its contract: each field from its bytes. Assumes nothing.
+use borrow.Author.Needs.{needs}
+use Rattle.block.specs.Layout.{descriptor-of}
+use Rattle.masks.proofs.Free.{free}
+use Rattle.block.proofs.read.descriptor_of.Statement.{statement}
+use Rattle.block.proofs.read.descriptor_of.Tie as tie
+
+returns : tie.Need-returns
+unfolding descriptor-of
+returns c =
+    let words = c .before .before .before .before in
+    rw (
+      words .before .before .before .before .before .before .word .ensures,
+      words .before .before .before .word2 .ensures,
+      words .word3 .ensures,
+      c .before .clean .ensures,
+    )
+
+pub descriptor-of-spec : {M : Type 1} → statement M
+descriptor-of-spec =
+    tie.close
+    (tie.spec
+    (λ c. search needs) (λ c. search needs) free (λ c. search needs) (λ c. search needs) free (λ c. search needs)
+    (λ c. search needs) free (λ c. search needs) (λ c. search needs) free (λ c. search needs) returns)

@@ -1,0 +1,119 @@
+-- The block that a host lends: where each register stands (docs/LAYOUTS.md). A word has its low byte first.
+use Prim.Native.Nat.{ℕ, zero, suc, _+_, _*_, _-_, _/_, _%_, min}
+use mathlib.Core.Bool.{Bool, cond}
+use mathlib.Core.List.{List, [], _∷_, _++_}
+use lib.Dec.{ltb}
+use lib.ListN.{length, take, drop, getD, replicate}
+use Rattle.masks.specs.Fields.{bit, field}
+use Rattle.descriptors.specs.Status.{clean}
+use Rattle.registers.specs.Unit.{RW, none, flag, byte, ac}
+use Rattle.registers.specs.Shared.{gsr-of, gsr-byte}
+use Rattle.chip.specs.System.{present, unit, descriptor, each}
+use Rattle.chip.specs.Reset.{nothing}
+use Rattle.descriptors.specs.declared.descriptor.Descriptor.{Descriptor}
+use Rattle.registers.specs.declared.unit.Byte.{Byte}
+use Rattle.registers.specs.declared.unit.Unit.{Unit}
+use Rattle.registers.specs.declared.shared.Shared.{Shared}
+use Rattle.chip.specs.declared.system.System.{System}
+
+-- how many bytes a host lends
+abbrev pub size : ℕ
+size = 4096
+
+-- where unit m and the descriptor at place i stand
+abbrev pub unit-place : (m : ℕ) → ℕ
+unit-place m = 32 + 16 * m
+
+abbrev pub descriptor-place : (i : ℕ) → ℕ
+descriptor-place i = 128 + 9 * i
+
+-- f of each number from 0 to 8
+abbrev pub nine : {A : Type 0} → (ℕ → A) → List A
+nine f = f 0 ∷ f 1 ∷ f 2 ∷ f 3 ∷ f 4 ∷ f 5 ∷ f 6 ∷ f 7 ∷ f 8 ∷ []
+
+-- n pieces, one after the other
+unfoldable pub pieces : (n : ℕ) → (ℕ → List ℕ) → List ℕ
+pieces zero f = []
+pieces (suc n) f = pieces n f ++ f n
+
+-- Writing. The nine marks of an accumulator, AC0's in bit 0
+unfoldable pub marks : Unit → ℕ
+marks u = field 9 (λ i. byte u i .global)
+
+-- the LSR without its three worked-out bits
+abbrev pub status : Unit → ℕ
+status u = 16 * (u .l % 16) + 8 * flag (u .rw)
+
+unfoldable pub unit-bytes : Unit → List ℕ
+unit-bytes u =
+    nine (ac u) ++ marks u % 256 ∷ marks u / 256 ∷ u .dp ∷ status u ∷ u .rdp ∷ 0 ∷ 0 ∷ []
+
+unfoldable pub descriptor-bytes : Descriptor → List ℕ
+descriptor-bytes d =
+    d .lba % 256 ∷ d .lba / 256 ∷ d .lam % 256 ∷ d .lam / 256 ∷ d .pba % 256 ∷ d .pba / 256
+    ∷ d .asn ∷ d .ssr ∷ d .asm ∷ []
+
+unfoldable pub shared-bytes : Shared → List ℕ
+shared-bytes h = h .count % 256 ∷ gsr-byte (h .gsr) ∷ h .ivr ∷ replicate 13 0 ++ h .table
+
+-- the one written form of a system
+unfoldable pub form : System → List ℕ
+form s =
+    let n = present s in
+    shared-bytes (s .shared)
+    ++ pieces n (λ m. unit-bytes (unit s m)) ++ replicate (16 * (6 - n)) 0
+    ++ pieces (32 * n) (λ i. descriptor-bytes (descriptor s i)) ++ replicate (3968 - 288 * n) 0
+
+-- what a block holds after a system was written to it: the bytes past its size stay, and so does a
+-- block that is too short
+unfoldable pub written : (block : List ℕ) → System → List ℕ
+written b s = cond (ltb (length b) size) b (form s ++ drop size b)
+
+-- Reading. A word of two bytes
+abbrev pub word-at : List ℕ → (i : ℕ) → ℕ
+word-at b i = getD b i 0 + 256 * getD b (i + 1) 0
+
+-- NVR, with the number 0, or five bits of number
+abbrev pub rdp-of : (value : ℕ) → ℕ
+rdp-of value = cond (bit value 7) none (value % 32)
+
+-- byte i of the accumulator, with its mark
+abbrev pub byte-of : List ℕ → (i : ℕ) → Byte
+byte-of b i = record { value = getD b i 0; global = bit (word-at b 9) i }
+
+-- a unit's registers and a descriptor, from where they stand on
+unfoldable pub unit-of : List ℕ → Unit
+unit-of b = record {
+  accumulator = nine (byte-of b);
+  dp = getD b 11 0 % 32;
+  rdp = rdp-of (getD b 13 0);
+  l = getD b 12 0 / 16;
+  rw = bit (getD b 12 0) RW;
+}
+
+unfoldable pub descriptor-of : List ℕ → Descriptor
+descriptor-of b = record {
+  lba = word-at b 0;
+  lam = word-at b 2;
+  pba = word-at b 4;
+  asn = getD b 6 0;
+  ssr = clean (getD b 7 0);
+  asm = getD b 8 0;
+}
+
+unfoldable pub shared-of : List ℕ → Shared
+shared-of b = record { table = take 16 (drop 16 b); gsr = gsr-of (getD b 1 0); ivr = getD b 2 0; count = getD b 0 0 }
+
+-- the system that a block holds; the units at or above the count are zero
+unfoldable pub system-of : List ℕ → System
+system-of b =
+    let n = min (getD b 0 0) 6 in
+    record {
+      descriptors = each (32 * n) (λ i d. descriptor-of (drop (descriptor-place i) b)) (nothing .descriptors);
+      units = each n (λ m u. unit-of (drop (unit-place m) b)) (nothing .units);
+      shared = shared-of b;
+    }
+
+-- the same for a block of any length: one that is too short holds no unit
+unfoldable pub read : (block : List ℕ) → System
+read b = cond (ltb (length b) size) nothing (system-of b)

@@ -1,0 +1,133 @@
+// Reading a lent block: any bytes are some system.
+ghost use mathlib.Core.Path.{_≡_};
+ghost use Prim.Native.Nat.{_+_, _*_, _≤_, _<_, min};
+ghost use lib.ListN.{length, drop, replicate, take};
+ghost use Rattle.chip.specs.System.{each};
+ghost use Rattle.block.specs.Layout.{nine, byte-of, unit-place, rdp-of, unit-of, descriptor-of, shared-of, read};
+use chip::system::System;
+use descriptors::descriptor::Descriptor;
+use descriptors::status;
+use registers::shared::Gsr;
+use registers::shared::Shared;
+use registers::unit;
+use registers::unit::Byte;
+use registers::unit::Unit;
+
+// What a host lends.
+pub const SIZE: usize = 4096;
+
+// How many units a count stands for. One above six is refused before it matters.
+pub(crate) fn present(count: usize) -> usize
+    ensures { λ r. ⌜ r ≡ min count 6 ⌝ }
+{
+    if count < 6 { count } else { 6 }
+}
+
+fn word(low: u8, high: u8) -> u16
+    ensures { λ r. ⌜ r ≡ low + 256 * high ⌝ }
+{
+    low as u16 + 256 * (high as u16)
+}
+
+fn rdp_of(value: u8) -> u8
+    ensures { λ r. ⌜ r ≡ rdp-of value ⌝ }
+{
+    if value & unit::NONE != 0 {
+        unit::NONE
+    } else {
+        value % 32
+    }
+}
+
+fn accumulator_of(b: &[u8]) -> [Byte; 9]
+    requires { ⌜ 16 ≤ length (now b) ⌝ }
+    ensures { λ r. ⌜ r ≡ nine (byte-of (now (b .entry))) ⌝ }
+{
+    let marks = word(b[9], b[10]);
+    let byte = Byte {
+        value: 0,
+        global: false,
+    };
+    let mut accumulator = [byte; 9];
+    for i in 0..9 {
+        accumulator[i] = Byte {
+            value: b[i],
+            global: (marks >> i) % 2 == 1,
+        };
+    }
+    accumulator
+}
+
+fn unit_of(b: &[u8]) -> Unit
+    requires { ⌜ 16 ≤ length (now b) ⌝ }
+    ensures { λ r. ⌜ r ≡ unit-of (now (b .entry)) ⌝ }
+{
+    Unit {
+        accumulator: accumulator_of(b),
+        dp: b[11] % 32,
+        rdp: rdp_of(b[13]),
+        l: b[12] / 16,
+        rw: b[12] & unit::RW != 0,
+    }
+}
+
+// The first n units, in place of those given.
+fn units_of(b: &[u8], mut units: [Unit; 6], n: usize) -> [Unit; 6]
+    requires { ⌜ (n ≤ 6) × (128 ≤ length (now b)) ⌝ }
+    ensures { λ r. ⌜ r ≡ each n (λ m u. unit-of (drop (unit-place m) (now (b .entry)))) units ⌝ }
+{
+    for m in 0..n {
+        let at = 32 + 16 * m;
+        units[m] = unit_of(&b[at..]);
+    }
+    units
+}
+
+fn descriptor_of(b: &[u8]) -> Descriptor
+    requires { ⌜ 9 ≤ length (now b) ⌝ }
+    ensures { λ r. ⌜ r ≡ descriptor-of (now (b .entry)) ⌝ }
+{
+    Descriptor {
+        lba: word(b[0], b[1]),
+        lam: word(b[2], b[3]),
+        pba: word(b[4], b[5]),
+        asn: b[6],
+        ssr: status::clean(b[7]),
+        asm: b[8],
+    }
+}
+
+fn shared_of(b: &[u8]) -> Shared
+    requires { ⌜ 32 ≤ length (now b) ⌝ }
+    ensures { λ r. ⌜ r ≡ shared-of (now (b .entry)) ⌝ }
+{
+    let mut table = [0u8; 16];
+    for i in 0..16 {
+        table[i] = b[16 + i];
+    }
+    Shared {
+        table,
+        gsr: Gsr::of(b[1]),
+        ivr: b[2],
+        count: b[0] as usize,
+    }
+}
+
+pub fn read(b: &[u8]) -> System
+    ensures { λ r. ⌜ r ≡ read (now (b .entry)) ⌝ }
+{
+    let mut system = System::nothing();
+    if b.len() < SIZE {
+        return system;
+    }
+    let shared = shared_of(b);
+    system.shared = shared;
+    let n = present(shared.count);
+    let units = system.units;
+    system.units = units_of(b, units, n);
+    for i in 0..32 * n {
+        let at = 128 + 9 * i;
+        system.descriptors[i] = descriptor_of(&b[at..]);
+    }
+    system
+}
