@@ -6,7 +6,7 @@ use lib.Dec.{ltb}
 use lib.ListN.{length, take, drop, getD, replicate}
 use Rattle.masks.specs.Fields.{bit, field}
 use Rattle.descriptors.specs.Status.{clean}
-use Rattle.registers.specs.Unit.{RW, none, flag, byte, ac}
+use Rattle.registers.specs.Unit.{RW, none, flag, local, ac}
 use Rattle.registers.specs.Shared.{gsr-of, gsr-byte}
 use Rattle.chip.specs.System.{present, unit, descriptor, each}
 use Rattle.chip.specs.Reset.{nothing}
@@ -37,8 +37,8 @@ pieces zero f = []
 pieces (suc n) f = pieces n f ++ f n
 
 -- Writing. The nine marks of an accumulator, AC0's in bit 0
-unfoldable pub marks : Unit → ℕ
-marks u = field 9 (λ i. byte u i .global)
+unfoldable pub marks : List Byte → ℕ
+marks a = field 9 (λ i. getD a i (local 0) .global)
 
 -- the LSR without its three worked-out bits
 abbrev pub status : Unit → ℕ
@@ -46,7 +46,7 @@ status u = 16 * (u .l % 16) + 8 * flag (u .rw)
 
 unfoldable pub unit-bytes : Unit → List ℕ
 unit-bytes u =
-    nine (ac u) ++ marks u % 256 ∷ marks u / 256 ∷ u .dp ∷ status u ∷ u .rdp ∷ 0 ∷ 0 ∷ []
+    nine (ac u) ++ marks (u .accumulator) % 256 ∷ marks (u .accumulator) / 256 ∷ u .dp ∷ status u ∷ u .rdp ∷ 0 ∷ 0 ∷ []
 
 unfoldable pub descriptor-bytes : Descriptor → List ℕ
 descriptor-bytes d =

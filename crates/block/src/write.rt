@@ -1,0 +1,137 @@
+// Writing a lent block: one form for each system. Each function writes what stands at the front of the part that it is
+// lent, and leaves the rest.
+ghost use mathlib.Core.Path.{_≡_};
+ghost use mathlib.Core.List.{_++_};
+ghost use Prim.Native.Nat.{_+_, _*_, _-_, _≤_};
+ghost use lib.ListN.{length, drop, getD, replicate};
+ghost use Rattle.descriptors.specs.Descriptor.{zeros};
+ghost use Rattle.registers.specs.Unit.{no-unit};
+ghost use Rattle.block.specs.Layout.{pieces, marks, unit-bytes, descriptor-bytes, shared-bytes, written};
+use chip::system::System;
+use crate::read;
+use descriptors::descriptor::Descriptor;
+use registers::shared::Shared;
+use registers::unit::Byte;
+use registers::unit::Unit;
+
+fn put_zeros(b: &mut [u8], n: usize)
+    requires { ⌜ n ≤ length (now b) ⌝ }
+    ensures { λ r. ⌜ now (b .exit) ≡ replicate n 0 ++ drop n (now (b .entry)) ⌝ }
+{
+    for i in 0..n {
+        b[i] = 0;
+    }
+}
+
+fn put_descriptor(b: &mut [u8], d: Descriptor)
+    requires { ⌜ 9 ≤ length (now b) ⌝ }
+    ensures { λ r. ⌜ now (b .exit) ≡ descriptor-bytes d ++ drop 9 (now (b .entry)) ⌝ }
+{
+    b[0] = (d.lba % 256) as u8;
+    b[1] = (d.lba / 256) as u8;
+    b[2] = (d.lam % 256) as u8;
+    b[3] = (d.lam / 256) as u8;
+    b[4] = (d.pba % 256) as u8;
+    b[5] = (d.pba / 256) as u8;
+    b[6] = d.asn;
+    b[7] = d.ssr;
+    b[8] = d.asm;
+}
+
+fn put_descriptors(b: &mut [u8], descriptors: [Descriptor; 192], n: usize)
+    requires { ⌜ (n ≤ 192) × (9 * n ≤ length (now b)) ⌝ }
+    ensures { λ r. ⌜ now (b .exit) ≡ pieces n (λ i. descriptor-bytes (getD descriptors i zeros)) ++ drop (9 * n) (now (b .entry)) ⌝ }
+{
+    for i in 0..n {
+        let at = 9 * i;
+        put_descriptor(&mut b[at..], descriptors[i]);
+    }
+}
+
+// A nested sum, as `field` is one.
+fn marks(a: [Byte; 9]) -> u16
+    ensures { λ r. ⌜ r ≡ marks a ⌝ }
+{
+    (a[8].global as u16) * 256
+        + ((a[7].global as u16) * 128
+            + ((a[6].global as u16) * 64
+                + ((a[5].global as u16) * 32
+                    + ((a[4].global as u16) * 16
+                        + ((a[3].global as u16) * 8
+                            + ((a[2].global as u16) * 4
+                                + ((a[1].global as u16) * 2 + a[0].global as u16)))))))
+}
+
+fn put_unit(b: &mut [u8], u: Unit)
+    requires { ⌜ 16 ≤ length (now b) ⌝ }
+    ensures { λ r. ⌜ now (b .exit) ≡ unit-bytes u ++ drop 16 (now (b .entry)) ⌝ }
+{
+    let a = u.accumulator;
+    let marks = marks(a);
+    b[0] = a[0].value;
+    b[1] = a[1].value;
+    b[2] = a[2].value;
+    b[3] = a[3].value;
+    b[4] = a[4].value;
+    b[5] = a[5].value;
+    b[6] = a[6].value;
+    b[7] = a[7].value;
+    b[8] = a[8].value;
+    b[9] = (marks % 256) as u8;
+    b[10] = (marks / 256) as u8;
+    b[11] = u.dp;
+    b[12] = 16 * (u.l % 16) + 8 * (u.rw as u8);
+    b[13] = u.rdp;
+    b[14] = 0;
+    b[15] = 0;
+}
+
+fn put_units(b: &mut [u8], units: [Unit; 6], n: usize)
+    requires { ⌜ (n ≤ 6) × (16 * n ≤ length (now b)) ⌝ }
+    ensures { λ r. ⌜ now (b .exit) ≡ pieces n (λ m. unit-bytes (getD units m no-unit)) ++ drop (16 * n) (now (b .entry)) ⌝ }
+{
+    for m in 0..n {
+        let at = 16 * m;
+        put_unit(&mut b[at..], units[m]);
+    }
+}
+
+fn put_table(b: &mut [u8], table: [u8; 16])
+    requires { ⌜ 16 ≤ length (now b) ⌝ }
+    ensures { λ r. ⌜ now (b .exit) ≡ table ++ drop 16 (now (b .entry)) ⌝ }
+{
+    for i in 0..16 {
+        b[i] = table[i];
+    }
+}
+
+fn put_shared(b: &mut [u8], shared: Shared)
+    requires { ⌜ 32 ≤ length (now b) ⌝ }
+    ensures { λ r. ⌜ now (b .exit) ≡ shared-bytes shared ++ drop 32 (now (b .entry)) ⌝ }
+{
+    b[0] = (shared.count % 256) as u8;
+    b[1] = shared.gsr.byte();
+    b[2] = shared.ivr;
+    put_zeros(&mut b[3..], 13);
+    let table = shared.table;
+    put_table(&mut b[16..], table);
+}
+
+pub fn write(b: &mut [u8], system: System)
+    ensures { λ r. ⌜ now (b .exit) ≡ written (now (b .entry)) system ⌝ }
+{
+    if b.len() < read::SIZE {
+        return;
+    }
+    let shared = system.shared;
+    let n = read::present(shared.count);
+    put_shared(b, shared);
+    let units = system.units;
+    put_units(&mut b[32..], units, n);
+    let past_units = 32 + 16 * n;
+    put_zeros(&mut b[past_units..], 16 * (6 - n));
+    let descriptors = system.descriptors;
+    put_descriptors(&mut b[128..], descriptors, 32 * n);
+    let past_descriptors = 128 + 288 * n;
+    put_zeros(&mut b[past_descriptors..], 3968 - 288 * n);
+}
