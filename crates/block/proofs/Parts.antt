@@ -1,17 +1,20 @@
 -- Writing a slice from the front, part after part.
 --     copied-more  a loop that copies a list, one store a turn
 --     appended     a part lent to a function that writes its front
+--     further      the same, for one part after the other
 --     pieces-more  the same, a piece of w bytes in each turn of a loop
 -- Assumes nothing.
-use Prim.Native.Nat.{ℕ, zero, suc, _+_, _*_, _<_, _≤_}
-use mathlib.Core.Path.{_≡_, refl, sym, ap, _∙_}
-use mathlib.Core.List.{List, [], _∷_, _++_, append-assoc}
+use Prim.Native.Nat.{ℕ, zero, suc, _+_, _*_, _-_, _<_}
+use mathlib.Core.Path.{_≡_, refl, ap, _∙_}
+use mathlib.Core.List.{List, [], _∷_, _++_, append-nil, append-assoc}
 use native.Mathlib.Nat.{le-of-suc-le-suc, not-suc-le-zero}
 use native.Mathlib.Numerals.{add-one}
 use native.Mathlib.Omega.{arith}
-use lib.ListN.{length, take, drop, getD, set, length-append}
+use lib.ListN.{length, take, drop, getD, set, length-append, length-drop, drop-of-length-le}
 use lib.Seq.{take-at, drop-at, drop-drop}
+use borrow.Rule.Slice.PartMut.{putMid}
 use Rattle.block.specs.Layout.{pieces}
+use Rattle.block.proofs.Lists.{rest}
 
 module _ {A : Type 0} where
   copied-suc : (n : ℕ) (s e : List A) (d : A) → n < length s → n < length e
@@ -26,12 +29,34 @@ module _ {A : Type 0} where
       → set (take n s ++ drop n e) n (getD s n d) ≡ take (n + 1) s ++ drop (n + 1) e
   copied-more n s e d h l = rw add-one (copied-suc n s e d h l)
 
-  pub appended : (p q e b t : List A) (n k : ℕ) → length p ≡ n → b ≡ p ++ drop n e → t ≡ q ++ drop k (drop n b)
-      → take n b ++ t ≡ (p ++ q) ++ drop (n + k) e
+  pub appended : (p q e b t : List A) (n k : ℕ) → length p ≡ n → b ≡ p ++ drop n e
+      → t ≡ q ++ drop k (take (length b - n) (drop n b)) → putMid n (length b - n) b t ≡ (p ++ q) ++ drop (n + k) e
   appended p q e b t n k l g h =
-      rw (h, g, take-at p (drop n e) n l, drop-at p (drop n e) n l, drop-drop, append-assoc)
+      let none : drop (length b - n) (drop n b) ≡ [] = drop-of-length-le (drop n b) {i = length b - n} (simp length-drop (omega arith)) in
+      rw (h, none, append-nil, rest n b, g, take-at p (drop n e) n l, drop-at p (drop n e) n l, drop-drop, append-assoc)
+
+-- of b the first n are p, the others are those of e
+abbrev pub Front : (p : List ℕ) (n : ℕ) (e b : List ℕ) → Type 0
+Front p n e b = (length p ≡ n) × (b ≡ p ++ drop n e)
+
+-- a part from n on, lent to a function that writes the k bytes q
+pub further : (p q e b t : List ℕ) (n k m : ℕ) → Front p n e b → length q ≡ k → n + k ≡ m
+    → t ≡ q ++ drop k (take (length b - n) (drop n b)) → Front (p ++ q) m e (putMid n (length b - n) b t)
+further p q e b t n k m h l j g =
+    (length-append p q ∙ omega (arith, h .0), rw (← j) (appended p q e b t n k (h .0) (h .1) g))
 
 pub length-pieces : (w : ℕ) (f : ℕ → List ℕ) → ((i : ℕ) → length (f i) ≡ w) → (n : ℕ) → length (pieces n f) ≡ w * n
 unfolding pieces
 length-pieces w f h zero = omega arith
 length-pieces w f h (suc n) = length-append (pieces n f) (f n) ∙ omega (arith, length-pieces w f h n, h n)
+
+-- a turn of a loop that lends the part from w * n on to a function that writes piece n
+pub pieces-more : (w : ℕ) (f : ℕ → List ℕ) → ((i : ℕ) → length (f i) ≡ w) → (n : ℕ) (e b t : List ℕ)
+    → b ≡ pieces n f ++ drop (w * n) e → t ≡ f n ++ drop w (take (length b - w * n) (drop (w * n) b))
+    → putMid (w * n) (length b - w * n) b t ≡ pieces (n + 1) f ++ drop (w * (n + 1)) e
+unfolding pieces
+pieces-more w f h n e b t g q =
+    rw (more, add-one) (appended (pieces n f) (f n) e b t (w * n) w (length-pieces w f h n) g q)
+  where
+    more : w * (n + 1) ≡ w * n + w
+    more = omega arith

@@ -7,8 +7,8 @@ ghost use lib.ListN.{length, drop, getD, replicate};
 ghost use Rattle.descriptors.specs.Descriptor.{zeros};
 ghost use Rattle.registers.specs.Unit.{no-unit};
 ghost use Rattle.block.specs.Layout.{pieces, marks, unit-bytes, descriptor-bytes, shared-bytes, written};
-use chip::system::System;
 use crate::read;
+use chip::system::System;
 use descriptors::descriptor::Descriptor;
 use registers::shared::Shared;
 use registers::unit::Byte;
@@ -109,10 +109,10 @@ fn put_shared(b: &mut [u8], shared: Shared)
     requires { ⌜ 32 ≤ length (now b) ⌝ }
     ensures { λ r. ⌜ now (b .exit) ≡ shared-bytes shared ++ drop 32 (now (b .entry)) ⌝ }
 {
+    put_zeros(b, 16);
     b[0] = (shared.count % 256) as u8;
     b[1] = shared.gsr.byte();
     b[2] = shared.ivr;
-    put_zeros(&mut b[3..], 13);
     let table = shared.table;
     put_table(&mut b[16..], table);
 }

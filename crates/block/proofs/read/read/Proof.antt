@@ -25,8 +25,8 @@ abbrev Inv-loop : tie.InvT-loop
 Inv-loop b system₀ n i₀ i-end system i =
     (n ≤ 6) × (i ≤ 32 * n)
     × (system
-      ≡ with-descriptors (system₀ .units) (system₀ .shared)
-      (each i (λ k d. descriptor-of (drop (descriptor-place k) b)) (system₀ .descriptors)))
+    ≡ with-descriptors (system₀ .units) (system₀ .shared)
+    (each i (λ k d. descriptor-of (drop (descriptor-place k) b)) (system₀ .descriptors)))
 
 abbrev μ-loop : tie.MeasureT-loop
 μ-loop b system₀ n i₀ i-end system i = 32 * n - i
@@ -45,13 +45,12 @@ descriptor-of-requires c κs = simp (length-take, length-drop) (omega arith)
 loop-again : tie.Need-loop-again Inv-loop μ-loop
 loop-again c =
     let at = c .before .before .before .loop in
-    let called = c .before .before .before .before in
-    (
+    let called = c .before .before .before .before in (
       omega arith,
       omega arith,
       rw (at .inv .2)
-      (ap (with-descriptors (called .units-of .result) (called .before .before .before .shared-of .result))
-      (filled zeros (at .i) _ _ _ _ refl (c .descriptor-of .ensures ∙ rw rest))),
+          (ap (with-descriptors (called .units-of .result) (called .before .before .before .shared-of .result))
+          (filled zeros (at .i) _ _ _ _ refl (c .descriptor-of .ensures ∙ rw rest))),
     )
 
 returns-2 : tie.Need-returns-2 Inv-loop μ-loop

@@ -19,7 +19,7 @@ mark a i = boolByte (getD a i (local 0) .global)
 
 all-fit : (a : List Byte)
     → mark a 8 * 256 + (mark a 7 * 128 + (mark a 6 * 64 + (mark a 5 * 32 + (mark a 4 * 16 + (mark a 3 * 8 + (mark a 2 * 4
-      + (mark a 1 * 2 + mark a 0)))))))
+    + (mark a 1 * 2 + mark a 0)))))))
     ≤ 511
 all-fit a =
     let small : (i : ℕ) → mark a i ≤ 1 = λ i. flag-small (getD a i (local 0) .global) in

@@ -1,88 +1,49 @@
+-- `put_shared` meets its contract: sixteen bytes, then the table. Assumes nothing.
 use borrow.Author.Needs.{needs}
+use borrow.Rule.Slice.PartMut.{same-len-mid}
+use native.Mathlib.Omega.{arith}
+use Prim.Native.Nat.{ℕ, _-_, _%_}
+use mathlib.Core.Path.{_≡_, refl, _∙_}
+use mathlib.Core.List.{List, _∷_, _++_}
+use lib.ListN.{length, drop, set, replicate, length-set, length-take, length-drop}
+use Rattle.registers.specs.Shared.{gsr-byte}
+use Rattle.registers.specs.declared.shared.Shared.{Shared}
+use Rattle.block.specs.Layout.{shared-bytes}
+use Rattle.block.proofs.Parts.{appended}
+use Rattle.masks.proofs.Free.{free}
 use Rattle.block.proofs.write.put_shared.Statement.{statement}
 use Rattle.block.proofs.write.put_shared.Tie as tie
-use Rattle.block.proofs.write.put_shared.Reads as reads
-use Rattle.block.proofs.write.put_shared.Lts as lts
-use Rattle.block.proofs.write.put_table.Reads as put-table-reads
-use Rattle.block.proofs.write.put_zeros.Reads as put-zeros-reads
-use Rattle.registers.proofs.shared.Gsr.byte.Reads as byte-reads
 
--- src/write.rt:112:12
-cast-b : tie.Need-cast-b
-cast-b c = search needs
+-- what stands in the slice before the table is written
+abbrev stored : List ℕ → Shared → (gsr : ℕ) → List ℕ
+stored b h gsr = set (set (set b 0 (h .count % 256)) 1 gsr) 2 (h .ivr)
 
--- src/write.rt:112:5
-slice-write-b : tie.Need-slice-write-b
-slice-write-b c = search needs
-
--- src/write.rt:113:12
-byte-requires : tie.Need-byte-requires
-byte-requires c κs = search needs
-
--- src/write.rt:113:5
-slice-write-b-2 : tie.Need-slice-write-b-2
-slice-write-b-2 c = ?
-
--- src/write.rt:114:5
-slice-write-b-3 : tie.Need-slice-write-b-3
-slice-write-b-3 c = ?
-
--- src/write.rt:115:15
-sub-put-zeros : tie.Need-sub-put-zeros
-sub-put-zeros c = ?
-
--- src/write.rt:115:15
-part-put-zeros-start : tie.Need-part-put-zeros-start
-part-put-zeros-start c = ?
-
--- src/write.rt:115:15
-part-put-zeros-end : tie.Need-part-put-zeros-end
-part-put-zeros-end c = search needs
-
--- src/write.rt:115:5
-put-zeros-requires : tie.Need-put-zeros-requires
-put-zeros-requires c κs = ?
-
--- src/write.rt:117:15
-sub-put-table : tie.Need-sub-put-table
-sub-put-table c = ?
-
--- src/write.rt:117:15
-part-put-table-start : tie.Need-part-put-table-start
-part-put-table-start c = ?
-
--- src/write.rt:117:15
-part-put-table-end : tie.Need-part-put-table-end
-part-put-table-end c = search needs
-
--- src/write.rt:117:5
-put-table-requires : tie.Need-put-table-requires
-put-table-requires c κs = ?
-
--- src/write.rt:108:1
 same-length : tie.Need-same-length
-same-length c = ?
+same-length c =
+    let at = c .before .before .before .before .before .before .before .before .before in
+    let h = at .before .before .before .args .shared in
+    let b : List ℕ = stored (at .put-zeros .last .0) h (c .before .before .before .before .before .byte .result) in
+    let same : length b ≡ length (at .put-zeros .last .0) = simp length-set in
+    same-len-mid 16 (length b - 16) b (c .before .before .put-table .last .0) (c .before .before .put-table .kept .0)
+    ∙ same ∙ at .put-zeros .kept .0
 
--- src/write.rt:108:1
 returns : tie.Need-returns
-returns c = ?
+unfolding shared-bytes
+returns c =
+    let at = c .before .before .before .before .before .before .before .before .before in
+    let start = at .before .before .before in
+    let h = start .args .shared in
+    let b : List ℕ = stored (at .put-zeros .last .0) h (c .before .before .before .before .before .byte .result) in
+    let front : List ℕ = h .count % 256 ∷ gsr-byte (h .gsr) ∷ h .ivr ∷ replicate 13 0 in
+    let written : b ≡ front ++ drop 16 (start .args .b .now) =
+    rw (at .put-zeros .ensures, c .before .before .before .before .before .byte .ensures) in
+    appended front (h .table) (start .args .b .now) b (c .before .before .put-table .last .0) 16 16 refl written
+    (c .before .before .put-table .ensures)
 
 pub put-shared-spec : {M : Type 1} → statement M
 put-shared-spec =
     tie.close
     (tie.spec
-    cast-b
-    slice-write-b
-    byte-requires
-    slice-write-b-2
-    slice-write-b-3
-    sub-put-zeros
-    part-put-zeros-start
-    part-put-zeros-end
-    put-zeros-requires
-    sub-put-table
-    part-put-table-start
-    part-put-table-end
-    put-table-requires
-    same-length
-    returns)
+    (λ c κs. search needs) (λ c. search needs) (λ c. search needs) free (λ c. simp length-set (omega arith))
+    (λ c. simp length-set (omega arith)) (λ c. simp length-set (omega arith)) (λ c. simp length-set (omega arith))
+    (λ c. search needs) (λ c κs. simp (length-take, length-drop, length-set) (omega arith)) same-length returns)

@@ -1,83 +1,44 @@
+-- `put_units` meets its contract: the units below m are written. Assumes nothing.
+use borrow.Author.Needs.{needs}
+use native.Mathlib.Omega.{arith}
+use Prim.Native.Nat.{_≤_, _*_, _-_}
+use mathlib.Core.Path.{_≡_, refl, _∙_}
+use mathlib.Core.List.{_++_}
+use lib.ListN.{length, drop, getD, length-take, length-drop}
+use Rattle.registers.specs.Unit.{no-unit}
+use borrow.Rule.Slice.PartMut.{same-len-mid}
+use Rattle.block.specs.Layout.{pieces, unit-bytes}
+use Rattle.block.proofs.Parts.{pieces-more}
 use Rattle.block.proofs.write.put_units.Statement.{statement}
 use Rattle.block.proofs.write.put_units.Tie as tie
-use Rattle.block.proofs.write.put_units.Reads as reads
-use Rattle.block.proofs.write.put_units.Lts as lts
-use Rattle.block.proofs.write.put_unit.Reads as put-unit-reads
 
 abbrev Inv-loop : tie.InvT-loop
-Inv-loop b₀ n units m₀ b m = ?
+Inv-loop b₀ n units m₀ b m =
+    (m ≤ n) × (length b ≡ length b₀) × (b ≡ pieces m (λ k. unit-bytes (getD units k no-unit)) ++ drop (16 * m) b₀)
 
 abbrev μ-loop : tie.MeasureT-loop
-μ-loop b₀ n units m₀ b m = ?
+μ-loop b₀ n units m₀ b m = n - m
 
--- src/write.rt:93:5
-loop-holds : tie.Need-loop-holds Inv-loop μ-loop
-loop-holds c = ?
-
--- src/write.rt:94:18
-mul-at : tie.Need-mul-at Inv-loop μ-loop
-mul-at c = ?
-
--- src/write.rt:95:18
-sub-put-unit : tie.Need-sub-put-unit Inv-loop μ-loop
-sub-put-unit c = ?
-
--- src/write.rt:95:18
-part-put-unit-start : tie.Need-part-put-unit-start Inv-loop μ-loop
-part-put-unit-start c = ?
-
--- src/write.rt:95:18
-part-put-unit-end : tie.Need-part-put-unit-end Inv-loop μ-loop
-part-put-unit-end c = ?
-
--- src/write.rt:95:32
-mul-put-unit : tie.Need-mul-put-unit Inv-loop μ-loop
-mul-put-unit c = ?
-
--- src/write.rt:95:32
-array-copy-out-put-unit : tie.Need-array-copy-out-put-unit Inv-loop μ-loop
-array-copy-out-put-unit c = ?
-
--- src/write.rt:95:9
-put-unit-requires : tie.Need-put-unit-requires Inv-loop μ-loop
-put-unit-requires c κs = ?
-
--- src/write.rt:93:9
-add-m : tie.Need-add-m Inv-loop μ-loop
-add-m c = ?
-
--- src/write.rt:93:5
-loop-less : tie.Need-loop-less Inv-loop μ-loop
-loop-less c = ?
-
--- src/write.rt:93:5
 loop-again : tie.Need-loop-again Inv-loop μ-loop
-loop-again c = ?
+unfolding unit-bytes
+loop-again c =
+    let at = c .before .before .before .before .before .before .loop in
+    let put = c .before .before .put-unit in (
+      omega arith,
+      same-len-mid (16 * at .m) (length (at .b) - 16 * at .m) (at .b) (put .last .0) (put .kept .0) ∙ at .inv .1,
+      pieces-more 16 _ (λ k. refl) (at .m) _ (at .b) (put .last .0) (at .inv .2) (put .ensures),
+    )
 
--- src/write.rt:89:1
-same-length : tie.Need-same-length Inv-loop μ-loop
-same-length c = ?
-
--- src/write.rt:89:1
 returns : tie.Need-returns Inv-loop μ-loop
-returns c = ?
+returns c =
+    let all : c .before .loop .m ≡ c .before .before .before .args .n = omega arith in
+    c .before .loop .inv .2 ∙ rw all
 
 pub put-units-spec : {M : Type 1} → statement M
+unfolding pieces
 put-units-spec =
     tie.close
     (tie.spec
-    Inv-loop
-    μ-loop
-    loop-holds
-    mul-at
-    sub-put-unit
-    part-put-unit-start
-    part-put-unit-end
-    mul-put-unit
-    array-copy-out-put-unit
-    put-unit-requires
-    add-m
-    loop-less
-    loop-again
-    same-length
-    returns)
+    Inv-loop μ-loop (λ c. (omega arith, refl, refl)) (λ c. omega arith) (λ c. omega arith) (λ c. omega arith)
+    (λ c. omega arith) (λ c. omega arith) (λ c. omega arith) (λ c κs. simp (length-take, length-drop) (omega arith))
+    (λ c. omega arith) (λ c. omega arith) loop-again (λ c. c .before .loop .inv .1) returns)

@@ -1,165 +1,67 @@
+-- `write` meets its contract: one part after the other, from the front. Assumes nothing.
 use borrow.Author.Needs.{needs}
+use borrow.Author.Tests.{lt-ltb, le-ltb}
+use native.Mathlib.Omega.{arith}
+use mathlib.Core.List.{List, _++_}
+use Prim.Native.Nat.{ℕ, _+_, _*_, _-_, _≤_}
+use mathlib.Core.Path.{_≡_, refl, ap, _∙_}
+use lib.ListN.{length, getD, replicate, length-append, length-drop, length-replicate}
+use Rattle.descriptors.specs.Descriptor.{zeros}
+use Rattle.registers.specs.Unit.{no-unit}
+use Rattle.block.specs.Layout.{pieces, unit-bytes, descriptor-bytes, shared-bytes, form, written}
+use Rattle.block.proofs.Parts.{Front, further, length-pieces}
+use Rattle.masks.proofs.Free.{free}
 use Rattle.block.proofs.write.write.Statement.{statement}
 use Rattle.block.proofs.write.write.Tie as tie
-use Rattle.block.proofs.write.write.Reads as reads
-use Rattle.block.proofs.write.write.Lts as lts
-use Rattle.block.proofs.read.present.Reads as present-reads
-use Rattle.block.proofs.write.put_descriptors.Reads as put-descriptors-reads
-use Rattle.block.proofs.write.put_shared.Reads as put-shared-reads
-use Rattle.block.proofs.write.put_units.Reads as put-units-reads
-use Rattle.block.proofs.write.put_zeros.Reads as put-zeros-reads
 
--- src/write.rt:124:9
 returns : tie.Need-returns
-returns c = ?
+unfolding written
+returns c = rw (lt-ltb _ _ (c .if1 .taken))
 
--- src/write.rt:127:9
-present-requires : tie.Need-present-requires
-present-requires c κs = search needs
-
--- src/write.rt:128:5
-put-shared-requires : tie.Need-put-shared-requires
-put-shared-requires c κs = search needs
-
--- src/write.rt:130:15
-sub-put-units : tie.Need-sub-put-units
-sub-put-units c = search needs
-
--- src/write.rt:130:15
-part-put-units-start : tie.Need-part-put-units-start
-part-put-units-start c = search needs
-
--- src/write.rt:130:15
-part-put-units-end : tie.Need-part-put-units-end
-part-put-units-end c = search needs
-
--- src/write.rt:130:5
-put-units-requires : tie.Need-put-units-requires
-put-units-requires c κs = search needs
-
--- src/write.rt:131:27
-mul-past-units : tie.Need-mul-past-units
-mul-past-units c = search needs
-
--- src/write.rt:131:22
-add-past-units : tie.Need-add-past-units
-add-past-units c = search needs
-
--- src/write.rt:132:15
-sub-put-zeros : tie.Need-sub-put-zeros
-sub-put-zeros c = search needs
-
--- src/write.rt:132:15
-part-put-zeros-start : tie.Need-part-put-zeros-start
-part-put-zeros-start c = search needs
-
--- src/write.rt:132:15
-part-put-zeros-end : tie.Need-part-put-zeros-end
-part-put-zeros-end c = search needs
-
--- src/write.rt:132:43
-sub-put-zeros-2 : tie.Need-sub-put-zeros-2
-sub-put-zeros-2 c = search needs
-
--- src/write.rt:132:37
-mul-put-zeros : tie.Need-mul-put-zeros
-mul-put-zeros c = search needs
-
--- src/write.rt:132:5
-put-zeros-requires : tie.Need-put-zeros-requires
-put-zeros-requires c κs = search needs
-
--- src/write.rt:134:21
-sub-put-descriptors : tie.Need-sub-put-descriptors
-sub-put-descriptors c = search needs
-
--- src/write.rt:134:21
-part-put-descriptors-start : tie.Need-part-put-descriptors-start
-part-put-descriptors-start c = search needs
-
--- src/write.rt:134:21
-part-put-descriptors-end : tie.Need-part-put-descriptors-end
-part-put-descriptors-end c = search needs
-
--- src/write.rt:134:49
-mul-put-descriptors : tie.Need-mul-put-descriptors
-mul-put-descriptors c = search needs
-
--- src/write.rt:134:5
-put-descriptors-requires : tie.Need-put-descriptors-requires
-put-descriptors-requires c κs = search needs
-
--- src/write.rt:135:34
-mul-past-descriptors : tie.Need-mul-past-descriptors
-mul-past-descriptors c = search needs
-
--- src/write.rt:135:28
-add-past-descriptors : tie.Need-add-past-descriptors
-add-past-descriptors c = search needs
-
--- src/write.rt:136:15
-sub-put-zeros-3 : tie.Need-sub-put-zeros-3
-sub-put-zeros-3 c = search needs
-
--- src/write.rt:136:15
-part-put-zeros-start-2 : tie.Need-part-put-zeros-start-2
-part-put-zeros-start-2 c = search needs
-
--- src/write.rt:136:15
-part-put-zeros-end-2 : tie.Need-part-put-zeros-end-2
-part-put-zeros-end-2 c = search needs
-
--- src/write.rt:136:50
-mul-put-zeros-2 : tie.Need-mul-put-zeros-2
-mul-put-zeros-2 c = search needs
-
--- src/write.rt:136:43
-sub-put-zeros-4 : tie.Need-sub-put-zeros-4
-sub-put-zeros-4 c = search needs
-
--- src/write.rt:136:5
-put-zeros-requires-2 : tie.Need-put-zeros-requires-2
-put-zeros-requires-2 c κs = search needs
-
--- src/write.rt:120:1
-same-length : tie.Need-same-length
-same-length c = search needs
-
--- src/write.rt:120:1
 returns-2 : tie.Need-returns-2
-returns-2 c = ?
+unfolding written form unit-bytes descriptor-bytes
+returns-2 c =
+    let zeros₂ = c .before .before in
+    let descriptors = zeros₂ .before .before .before .before in
+    let zeros₁ = descriptors .before .before .before .before .before in
+    let units = zeros₁ .before .before .before .before in
+    let shared = units .before .before .before .before .before in
+    let present = shared .before .before in
+    let tested = present .before .before in
+    let start = tested .before .before in
+    let e = start .args .b .now in
+    let s = start .args .system in
+    let n = present .present .result in
+    let few : n ≤ 6 = omega arith in
+    let size : length (shared-bytes (s .shared)) ≡ 32 =
+    omega (arith, simp (length-append, length-drop) at (ap length (shared .put-shared .ensures)), shared .put-shared .kept .0) in
+    let p₁ : List ℕ = shared-bytes (s .shared) in
+    let p₂ : List ℕ = pieces n (λ m. unit-bytes (getD (s .units) m no-unit)) in
+    let p₃ : List ℕ = replicate (16 * (6 - n)) 0 in
+    let p₄ : List ℕ = pieces (32 * n) (λ i. descriptor-bytes (getD (s .descriptors) i zeros)) in
+    let p₅ : List ℕ = replicate (3968 - 288 * n) 0 in
+    let h₁ : Front p₁ 32 e (shared .put-shared .last .0) = (size, shared .put-shared .ensures) in
+    let h₂ =
+    further p₁ p₂ e _ (units .put-units .last .0) 32 (16 * n) (32 + 16 * n) h₁
+    (length-pieces 16 _ (λ m. refl) n) refl (units .put-units .ensures) in
+    let h₃ =
+    further (p₁ ++ p₂) p₃ e _ (zeros₁ .put-zeros .last .0) (32 + 16 * n) (16 * (6 - n)) 128 h₂
+    (length-replicate (16 * (6 - n)) 0) (omega arith) (zeros₁ .put-zeros .ensures) in
+    let h₄ =
+    further (p₁ ++ p₂ ++ p₃) p₄ e _ (descriptors .put-descriptors .last .0) 128 (9 * (32 * n)) (128 + 288 * n) h₃
+    (length-pieces 9 _ (λ i. refl) (32 * n)) (omega arith) (descriptors .put-descriptors .ensures) in
+    let h₅ =
+    further (p₁ ++ p₂ ++ p₃ ++ p₄) p₅ e _ (zeros₂ .put-zeros2 .last .0) (128 + 288 * n) (3968 - 288 * n) 4096 h₄
+    (length-replicate (3968 - 288 * n) 0) (omega arith) (zeros₂ .put-zeros2 .ensures) in
+    rw (le-ltb _ _ (tested .if1 .left)) (rw (← present .present .ensures) (h₅ .1))
 
 pub write-spec : {M : Type 1} → statement M
 write-spec =
     tie.close
     (tie.spec
-    returns
-    present-requires
-    put-shared-requires
-    sub-put-units
-    part-put-units-start
-    part-put-units-end
-    put-units-requires
-    mul-past-units
-    add-past-units
-    sub-put-zeros
-    part-put-zeros-start
-    part-put-zeros-end
-    sub-put-zeros-2
-    mul-put-zeros
-    put-zeros-requires
-    sub-put-descriptors
-    part-put-descriptors-start
-    part-put-descriptors-end
-    mul-put-descriptors
-    put-descriptors-requires
-    mul-past-descriptors
-    add-past-descriptors
-    sub-put-zeros-3
-    part-put-zeros-start-2
-    part-put-zeros-end-2
-    mul-put-zeros-2
-    sub-put-zeros-4
-    put-zeros-requires-2
-    same-length
-    returns-2)
+    returns free (λ c κs. search needs) (λ c. search needs) (λ c. search needs) (λ c. search needs)
+    (λ c κs. search needs) (λ c. search needs) (λ c. search needs) (λ c. search needs) (λ c. search needs)
+    (λ c. search needs) (λ c. search needs) (λ c. search needs) (λ c κs. search needs) (λ c. search needs)
+    (λ c. search needs) (λ c. search needs) (λ c. search needs) (λ c κs. search needs) (λ c. search needs)
+    (λ c. search needs) (λ c. search needs) (λ c. search needs) (λ c. search needs) (λ c. search needs)
+    (λ c. search needs) (λ c κs. search needs) (λ c. search needs) returns-2)
