@@ -1,0 +1,44 @@
+-- `run` meets its contract: the tests in their order, then what the callees ensure. Assumes nothing.
+use borrow.Author.Needs.{needs}
+use borrow.Author.Tests.{lt-ltb, le-ltb, eq-eqb, ne-eqb}
+use mathlib.Core.Path.{refl}
+use Rattle.cleftromi.specs.Interface.{answer, after}
+use Rattle.masks.proofs.Free.{free}
+use Rattle.cleftromi.proofs.run.Statement.{statement}
+use Rattle.cleftromi.proofs.run.Tie as tie
+
+returns : tie.Need-returns
+unfolding answer after
+returns c = rw (lt-ltb _ _ (c .if1 .taken)) (refl, refl)
+
+returns-2 : tie.Need-returns-2
+unfolding answer after
+returns-2 c =
+    let called = c .before .before in
+    rw (
+      le-ltb _ _ (called .before .before .before .before .before .if1 .left),
+      ← called .before .before .before .read .ensures,
+      ← called .before .before .perform .ensures,
+      ← called .before .values .ensures,
+      ne-eqb _ _ (c .if2 .taken),
+    )
+    (called .number-of .ensures, refl)
+
+returns-3 : tie.Need-returns-3
+unfolding answer after
+returns-3 c =
+    let called = c .before .before .before .before .before .before in
+    rw (
+      le-ltb _ _ (called .before .before .before .before .before .if1 .left),
+      ← called .before .before .before .read .ensures,
+      ← called .before .before .perform .ensures,
+      ← called .before .values .ensures,
+      eq-eqb _ _ (c .before .before .before .before .if2 .left),
+    )
+    (called .number-of .ensures, c .before .before .write .ensures)
+
+pub run-spec : {M : Type 1} → statement M
+run-spec =
+    tie.close
+    (tie.spec
+    returns free free free free (λ c. search needs) returns-2 free (λ c. search needs) returns-3)

@@ -1,0 +1,53 @@
+-- What a call from C does to the lent block, and the number that it answers (docs/LAYOUTS.md).
+use Prim.Native.Nat.{ℕ, _+_, _*_, _%_, _^_}
+use mathlib.Core.Bool.{Bool, cond}
+use mathlib.Core.List.{List}
+use lib.Dec.{eqb, ltb}
+use lib.ListN.{length}
+use Rattle.registers.specs.Unit.{flag}
+use Rattle.chip.specs.Answer.{values}
+use Rattle.chip.specs.Call.{performed}
+use Rattle.block.specs.Layout.{size, read, written}
+use Rattle.chip.specs.declared.access.Cycle.{Cycle}
+use Rattle.chip.specs.declared.access.Cycle.the-variants as cycle
+use Rattle.chip.specs.declared.register.Operation.{Operation}
+use Rattle.chip.specs.declared.register.Operation.the-variants as operation
+use Rattle.chip.specs.declared.reset.Selected.{Selected}
+use Rattle.chip.specs.declared.reset.Selected.the-variants as selected
+use Rattle.chip.specs.declared.answer.Values.{Values}
+use Rattle.chip.specs.declared.answer.Outcome.{Outcome}
+use Rattle.chip.specs.declared.call.Call.{Call}
+
+-- The numbers that a host passes: a unit, or 255 for none; direction 0 reads, any other number writes
+abbrev pub none : ℕ
+none = 255
+
+abbrev pub selected-by : (number : ℕ) → Selected
+selected-by number = cond (eqb number none) selected.Nobody (selected.Unit number)
+
+abbrev pub cycle-by : (direction : ℕ) → Cycle
+cycle-by direction = cond (eqb direction 0) cycle.Read cycle.Write
+
+abbrev pub operation-by : (direction value : ℕ) → Operation
+operation-by direction value = cond (eqb direction 0) operation.Read (operation.Write value)
+
+-- The answer: each field at its place, and no wider than it
+unfoldable pub number-of : Values → (irq : Bool) → ℕ
+number-of v irq =
+    v .number + v .kind % 16 * 2 ^ 8 + flag irq * 2 ^ 12 + flag (v .win) * 2 ^ 13 + v .unit % 8 * 2 ^ 16
+    + v .descriptor % 32 * 2 ^ 19 + v .byte * 2 ^ 24 + v .address % 2 ^ 24 * 2 ^ 32
+
+-- a refusal leaves the block as it was
+abbrev pub left : (block : List ℕ) → Outcome → List ℕ
+left b o = cond (eqb (values (o .answer) .number) 0) (written b (o .system)) b
+
+-- 7: the lent block is too short
+abbrev pub short : List ℕ → Bool
+short b = ltb (length b) size
+
+-- what a call answers, and what it leaves in the block
+unfoldable pub answer : Call → (block : List ℕ) → ℕ
+answer call b = cond (short b) 7 (number-of (values (performed call (read b) .answer)) (performed call (read b) .irq))
+
+unfoldable pub after : Call → (block : List ℕ) → List ℕ
+after call b = cond (short b) b (left b (performed call (read b)))

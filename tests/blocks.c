@@ -1,0 +1,175 @@
+/* blocks SEED COUNT: blocks that no call has written.  Each is read into the
+ * model by docs/LAYOUTS.md, and a few calls to both are compared: the answers,
+ * and every byte afterwards. */
+#include <inttypes.h>
+#include <stdio.h>
+#include <stdlib.h>
+#include <string.h>
+#include "cleftromi.h"
+#include "layout.h"
+#include "mix.h"
+#include "pair.h"
+
+static pair both;
+static mix calls;
+static uint8_t block[LAYOUT_BYTES];
+static unsigned long refused, granted, mapped, kept_bad;
+
+/* ------------------------------------------------------------------ */
+/* Blocks                                                              */
+/* ------------------------------------------------------------------ */
+
+static void random_bytes(void)
+{
+    for (size_t i = 0; i < LAYOUT_BYTES; i++)
+        block[i] = (uint8_t)mix_random(&calls);
+}
+
+static void good_count(void)
+{
+    block[0] = (uint8_t)(1 + mix_below(&calls, 6));
+}
+
+/* Bytes of descriptors with few ones in the masks, so that many match. */
+static void wide_masks(void)
+{
+    for (size_t at = 128; at < 1856; at += 9) {
+        block[at + 2] &= (uint8_t)mix_random(&calls);
+        block[at + 3] &= (uint8_t)mix_random(&calls);
+        block[at + 8] &= (uint8_t)mix_random(&calls);
+    }
+}
+
+/* Every mark of every unit, so that nothing is sent before an operation. */
+static void all_marks(void)
+{
+    for (size_t at = 32; at < 128; at += 16) {
+        block[at + 9] = 0xFF;
+        block[at + 10] |= 1;
+    }
+}
+
+/* Most segments disabled, so that a load has a chance. */
+static void few_enabled(void)
+{
+    for (size_t at = 128; at < 1856; at += 9)
+        if (mix_below(&calls, 16) != 0)
+            block[at + 7] &= (uint8_t)~CLEFTROMI_SSR_E;
+}
+
+static void written_form(void)
+{
+    static model m;
+    layout_decode(block, &m);
+    if (m.count >= 1 && m.count <= 6)
+        layout_encode(&m, block);
+}
+
+static void damage(void)
+{
+    for (unsigned n = mix_below(&calls, 5); n > 0; n--)
+        block[mix_below(&calls, mix_below(&calls, 2) ? 1900 : LAYOUT_BYTES)] = (uint8_t)mix_random(&calls);
+}
+
+static void make_block(void)
+{
+    random_bytes();
+    if (mix_below(&calls, 8) != 0)
+        good_count();
+    if (mix_below(&calls, 2))
+        wide_masks();
+    if (mix_below(&calls, 2))
+        all_marks();
+    if (mix_below(&calls, 2))
+        few_enabled();
+    if (mix_below(&calls, 2)) {
+        written_form();
+        damage();
+    }
+    if (mix_below(&calls, 32) == 0)
+        block[0] = (uint8_t)mix_random(&calls);
+}
+
+/* ------------------------------------------------------------------ */
+/* Calls                                                               */
+/* ------------------------------------------------------------------ */
+
+/* Makes the table of the block, not of the library, fit some descriptor: an
+ * access can then be the first call that the block sees. */
+static call aimed_access(void)
+{
+    static model m;
+    unsigned unit, number, page = mix_below(&calls, 65536);
+    layout_decode(block, &m);
+    const model_descriptor *d = m.count >= 1 && m.count <= 6 ? mix_enabled(&calls, &m, &unit, &number) : NULL;
+    if (d != NULL) {
+        memset(block + 16, mix_number(&calls, d), 16);
+        page = mix_page(&calls, d);
+    }
+    call c = {CALL_ACCESS, {mix_below(&calls, 16), mix_below(&calls, 2), (uint64_t)page << 8 | 0x5A}, 0};
+    return c;
+}
+
+static void lend(void)
+{
+    size_t at = PAIR_GUARD + mix_below(&calls, 64);
+    size_t more = PAIR_ROOM - PAIR_GUARD - LAYOUT_BYTES - at;
+    size_t bytes = LAYOUT_BYTES + (mix_below(&calls, 2) ? 0 : mix_below(&calls, (unsigned)more));
+    pair_lend(&both, block, at, bytes, mix_random(&calls));
+}
+
+static bool compare(call c, unsigned long number, uint64_t seed)
+{
+    if (!pair_call(&both, c)) {
+        printf("seed %" PRIu64 ", block %lu, %zu bytes lent at %zu: ", seed, number, both.bytes, both.at);
+        call_print(c);
+        return false;
+    }
+    refused += both.answer.refusal != 0;
+    kept_bad += both.answer.refusal == 1;
+    granted += both.answer.refusal == 0;
+    mapped += both.answer.kind == MODEL_MAPPED;
+    return true;
+}
+
+/* The last call of a sequence alone, or a whole sequence. */
+static bool some_calls(unsigned long number, uint64_t seed)
+{
+    if (mix_below(&calls, 2))
+        return compare(mix_single(&calls, &both.m), number, seed);
+    do
+        if (!compare(mix_next(&calls, &both.m), number, seed))
+            return false;
+    while (calls.waiting > 0);
+    return true;
+}
+
+static bool try_block(unsigned long number, uint64_t seed)
+{
+    make_block();
+    if (mix_below(&calls, 3) != 0) {
+        lend();
+        return some_calls(number, seed);
+    }
+    call first = aimed_access();
+    lend();
+    return compare(first, number, seed) && compare(mix_single(&calls, &both.m), number, seed);
+}
+
+int main(int argc, char **argv)
+{
+    if (argc != 3) {
+        fprintf(stderr, "blocks SEED COUNT\n");
+        return 2;
+    }
+    uint64_t seed = strtoull(argv[1], NULL, 0);
+    unsigned long wanted = strtoul(argv[2], NULL, 0);
+    mix_begin(&calls, seed);
+    for (unsigned long i = 0; i < wanted; i++)
+        if (!try_block(i, seed))
+            return 1;
+    bool enough = wanted < 10000 || (refused > 100 && granted > 100 && mapped > 100 && kept_bad > 100);
+    printf("%lu blocks, %lu calls granted (%lu mapped), %lu refused (%lu for the count)%s\n", wanted, granted, mapped,
+           refused, kept_bad, enough ? ", all the same" : ", but some of these were seen too seldom");
+    return enough ? 0 : 1;
+}

@@ -1,0 +1,145 @@
+/* cost prepare UNITS FILE: fills every descriptor of every unit, in the library
+ * and in the model, and saves both states.
+ * cost ours|model OPERATION CALLS FILE: takes up a saved state and makes one
+ * call that many times.  tests/cost counts the instructions of two such runs. */
+#include <stdio.h>
+#include <stdlib.h>
+#include <string.h>
+#include "cleftromi.h"
+#include "layout.h"
+#include "model.h"
+#include "pair.h"
+
+static uint8_t block[LAYOUT_BYTES];
+static model m;
+
+static const uint64_t code = 1;
+static const uint8_t space = 0x01;
+
+/* Each descriptor has 256 pages of its own, by the high byte of the page. */
+static unsigned last_segment(unsigned units)
+{
+    return 32 * units - 1;
+}
+
+static void fail(const char *what)
+{
+    fprintf(stderr, "cost: %s\n", what);
+    exit(1);
+}
+
+/* ------------------------------------------------------------------ */
+/* Preparing                                                           */
+/* ------------------------------------------------------------------ */
+
+static uint64_t on_both(call c)
+{
+    uint64_t ours = call_library(c, block, sizeof block);
+    if (ours != layout_answer(call_model(c, &m)))
+        fail("the library and the model differ");
+    return ours;
+}
+
+static void set(unsigned unit, unsigned address, unsigned value)
+{
+    call c = {CALL_REGISTER, {unit, address, CLEFTROMI_WRITE}, (uint8_t)value};
+    on_both(c);
+}
+
+static void load_segment(unsigned number)
+{
+    const unsigned bytes[9] = {number, 0, 0xFF, 0, number ^ 0xFF, 0, space, CLEFTROMI_SSR_E, 0xFF};
+    unsigned unit = number / 32;
+    call load = {CALL_REGISTER, {unit, CLEFTROMI_LOAD, CLEFTROMI_READ}, 0};
+    for (unsigned n = 0; n < 9; n++)
+        set(unit, CLEFTROMI_AC0 + n, bytes[n]);
+    set(unit, CLEFTROMI_DP, number % 32);
+    if (cleftromi_byte(on_both(load)) != 0)
+        fail("a load clashes");
+}
+
+/* The accumulator and DP are left with the last descriptor of the last unit. */
+static void prepare(unsigned units, const char *path)
+{
+    call start = {CALL_START, {units, CLEFTROMI_NONE, 0}, 0};
+    on_both(start);
+    for (unsigned i = 0; i <= last_segment(units); i++)
+        load_segment(i);
+    set(0, CLEFTROMI_AST(code), space);
+    FILE *f = fopen(path, "wb");
+    if (f == NULL || fwrite(block, sizeof block, 1, f) != 1 || fwrite(&m, sizeof m, 1, f) != 1 || fclose(f) != 0)
+        fail("the state can't be saved");
+}
+
+static void take_up(const char *path)
+{
+    FILE *f = fopen(path, "rb");
+    if (f == NULL || fread(block, sizeof block, 1, f) != 1 || fread(&m, sizeof m, 1, f) != 1)
+        fail("there is no saved state");
+    fclose(f);
+}
+
+/* ------------------------------------------------------------------ */
+/* Calling                                                             */
+/* ------------------------------------------------------------------ */
+
+/* The call, and the answer that it must have. */
+static call operation(const char *name, unsigned units, model_answer *wanted)
+{
+    call c = {CALL_ACCESS, {code, CLEFTROMI_READ, (uint64_t)last_segment(units) << 16 | 0x1234}, 0};
+    model_answer mapped = {0, MODEL_MAPPED, 0, 0, units - 1, 31, 0, (last_segment(units) ^ 0xFF) << 16 | 0x1234};
+    model_answer plain = {0, 0, 0, 0, 0, 0, 0, 0};
+    *wanted = plain;
+    if (strcmp(name, "access") == 0) {
+        *wanted = mapped;
+    } else if (strcmp(name, "undefined") == 0) {
+        c.number[2] = 0xFFFFFF;
+        wanted->kind = MODEL_UNDEFINED;
+    } else if (strcmp(name, "write") == 0) {
+        call write = {CALL_REGISTER, {0, CLEFTROMI_IVR, CLEFTROMI_WRITE}, 0x40};
+        c = write;
+        wanted->kind = MODEL_DONE;
+    } else if (strcmp(name, "load") == 0) {
+        call load = {CALL_REGISTER, {units - 1, CLEFTROMI_LOAD, CLEFTROMI_READ}, 0};
+        c = load;
+        wanted->kind = MODEL_BYTE; /* $00: granted */
+    } else {
+        fail("there is no such operation");
+    }
+    return c;
+}
+
+/* The two loops are alike, so that what they cost themselves is about equal. */
+static uint64_t call_ours(call c, long calls)
+{
+    uint64_t answer = 0;
+    for (long i = 0; i < calls; i++)
+        answer = call_library(c, block, sizeof block);
+    return answer;
+}
+
+static uint64_t call_plain(call c, long calls)
+{
+    model_answer answer = {0, 0, 0, 0, 0, 0, 0, 0};
+    for (long i = 0; i < calls; i++)
+        answer = call_model(c, &m);
+    return layout_answer(answer);
+}
+
+int main(int argc, char **argv)
+{
+    if (argc == 4 && strcmp(argv[1], "prepare") == 0) {
+        prepare((unsigned)strtoul(argv[2], NULL, 10), argv[3]);
+        return 0;
+    }
+    if (argc != 5)
+        fail("prepare UNITS FILE, or ours|model OPERATION CALLS FILE");
+    model_answer wanted;
+    take_up(argv[4]);
+    call c = operation(argv[2], m.count, &wanted);
+    long calls = strtol(argv[3], NULL, 10);
+    bool ours = strcmp(argv[1], "ours") == 0;
+    if ((ours ? call_ours(c, calls) : call_plain(c, calls)) != layout_answer(wanted))
+        fail("the answer is not the one expected");
+    return 0;
+}

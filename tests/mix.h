@@ -1,0 +1,38 @@
+/* Random calls that go where the chip has something to do. */
+#ifndef MIX_H
+#define MIX_H
+
+#include <stdint.h>
+#include "model.h"
+#include "pair.h"
+
+#define MIX_QUEUE 24u
+
+typedef struct {
+    uint64_t state;          /* of the random numbers */
+    unsigned mode, left;     /* the mixture in force, and for how many more sequences */
+    unsigned first, waiting; /* of the queue */
+    call queue[MIX_QUEUE];
+} mix;
+
+void mix_begin(mix *x, uint64_t seed);
+
+/* A random number; one below n. */
+uint64_t mix_random(mix *x);
+unsigned mix_below(mix *x, unsigned n);
+
+/* A page and a number that a descriptor matches. */
+uint16_t mix_page(mix *x, const model_descriptor *d);
+uint8_t mix_number(mix *x, const model_descriptor *d);
+
+/* Some enabled descriptor and its unit, or NULL. */
+const model_descriptor *mix_enabled(mix *x, const model *m, unsigned *unit, unsigned *number);
+
+/* The next call.  Calls come in short sequences (fill the accumulator, set DP,
+ * load), planned by the state that the model is in when a sequence begins. */
+call mix_next(mix *x, const model *m);
+
+/* The last call of a fresh sequence alone, for a state that is prepared. */
+call mix_single(mix *x, const model *m);
+
+#endif
