@@ -7,7 +7,8 @@
 use Prim.Native.Nat.{ℕ, zero, suc, _+_, _*_, _-_, _<_}
 use mathlib.Core.Path.{_≡_, refl, ap, _∙_}
 use mathlib.Core.List.{List, [], _∷_, _++_, append-nil, append-assoc}
-use native.Mathlib.Nat.{le-of-suc-le-suc, not-suc-le-zero}
+use mathlib.Core.Logic.{⊎-elim}
+use native.Mathlib.Nat.{le-of-suc-le-suc, not-suc-le-zero, eq-or-lt-of-le}
 use native.Mathlib.Numerals.{add-one}
 use native.Mathlib.Omega.{arith}
 use lib.ListN.{length, take, drop, getD, set, length-append, length-drop, drop-of-length-le}
@@ -60,3 +61,19 @@ pieces-more w f h n e b t g q =
   where
     more : w * (n + 1) ≡ w * n + w
     more = omega arith
+
+-- piece m stands at w * m
+pub pieces-at : (w : ℕ) (f : ℕ → List ℕ) → ((i : ℕ) → length (f i) ≡ w) → (n m : ℕ) (t : List ℕ) → m < n
+    → (r : List ℕ) × (drop (w * m) (pieces n f ++ t) ≡ f m ++ r)
+unfolding pieces
+pieces-at w f h zero m t l = absurd (not-suc-le-zero l)
+pieces-at w f h (suc n) m t l =
+    ⊎-elim (last w f h n m t) (before w f n m t (pieces-at w f h n m (f n ++ t))) (eq-or-lt-of-le (le-of-suc-le-suc l))
+  where
+    last : (w : ℕ) (f : ℕ → List ℕ) → ((i : ℕ) → length (f i) ≡ w) → (n m : ℕ) (t : List ℕ) → m ≡ n
+        → (r : List ℕ) × (drop (w * m) (pieces n f ++ f n ++ t) ≡ f m ++ r)
+    last w f h n m t e = (t, rw (e, append-assoc) (drop-at (pieces n f) (f n ++ t) (w * n) (length-pieces w f h n)))
+    before : (w : ℕ) (f : ℕ → List ℕ) (n m : ℕ) (t : List ℕ)
+        → (m < n → (r : List ℕ) × (drop (w * m) (pieces n f ++ (f n ++ t)) ≡ f m ++ r)) → m < n
+        → (r : List ℕ) × (drop (w * m) (pieces n f ++ f n ++ t) ≡ f m ++ r)
+    before w f n m t below l = (below l .0, rw append-assoc (below l .1))
