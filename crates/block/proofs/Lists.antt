@@ -38,6 +38,7 @@ module _ {A : Type 0} where
     where
       size : length (each n (λ i x. g i) (replicate k z)) ≡ k
       size = length-each n (λ i x. g i) (replicate k z) ∙ length-replicate k z
+
       at : (i : ℕ) → i < k → (t : Bool) → ltb i n ≡ t → getD (each n (λ i x. g i) (replicate k z)) i d ≡ getD l i d
       at i h true q =
           let b : i < n = ltb-true i n q in

@@ -73,6 +73,7 @@ pieces-at w f h (suc n) m t l =
     last : (w : ℕ) (f : ℕ → List ℕ) → ((i : ℕ) → length (f i) ≡ w) → (n m : ℕ) (t : List ℕ) → m ≡ n
         → (r : List ℕ) × (drop (w * m) (pieces n f ++ f n ++ t) ≡ f m ++ r)
     last w f h n m t e = (t, rw (e, append-assoc) (drop-at (pieces n f) (f n ++ t) (w * n) (length-pieces w f h n)))
+
     before : (w : ℕ) (f : ℕ → List ℕ) (n m : ℕ) (t : List ℕ)
         → (m < n → (r : List ℕ) × (drop (w * m) (pieces n f ++ (f n ++ t)) ≡ f m ++ r)) → m < n
         → (r : List ℕ) × (drop (w * m) (pieces n f ++ f n ++ t) ≡ f m ++ r)

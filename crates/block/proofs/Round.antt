@@ -146,7 +146,6 @@ module _ (s : System) (table : length (s .shared .table) ≡ 16) (r : List ℕ) 
       let p = pieces-at 9 (λ i. descriptor-bytes (descriptor s i)) (λ i. refl) (32 * present s) i past-descriptors h in
       rw (← drop-drop (9 * i) 128 (form s ++ r), from-descriptors, p .1) (descriptor-back (descriptor s i) (p .0) c)
 
-
   shared-at : Clean-shared (s .shared) → shared-of (form s ++ r) ≡ s .shared
   unfolding form units descriptors past-units past-descriptors
   shared-at c = simp append-assoc (shared-back (s .shared) (units ++ past-units) c)
@@ -165,7 +164,7 @@ system-back s r c =
       count-at s table r (c .shared),
       shared-at s table r (c .shared),
       filled-is zeros (32 * present s) 192 (λ i. descriptor-of (drop (descriptor-place i) (form s ++ r))) zeros (s .descriptors)
-      (c .places .1) (λ i h k. descriptor-at s table r i h (c .descriptors i h)) (λ i h k. sym (c .no-descriptor i h)),
+          (c .places .1) (λ i h k. descriptor-at s table r i h (c .descriptors i h)) (λ i h k. sym (c .no-descriptor i h k)),
       filled-is no-unit (present s) 6 (λ m. unit-of (drop (unit-place m) (form s ++ r))) blank (s .units) (c .places .0)
-      (λ m h k. unit-at s table r m h (c .units m h)) (λ m h k. sym (c .no-unit m h k)),
+          (λ m h k. unit-at s table r m h (c .units m h)) (λ m h k. sym (c .no-unit m h k)),
     )

@@ -44,4 +44,4 @@ pub record Clean (s : System) : Type 0 where
   pub units : (m : ℕ) → m < present s → Clean-unit (unit s m)
   pub descriptors : (i : ℕ) → i < 32 * present s → Clean-descriptor (descriptor s i)
   pub no-unit : (m : ℕ) → present s ≤ m → m < 6 → unit s m ≡ blank
-  pub no-descriptor : (i : ℕ) → 32 * present s ≤ i → descriptor s i ≡ zeros
+  pub no-descriptor : (i : ℕ) → 32 * present s ≤ i → i < 192 → descriptor s i ≡ zeros

@@ -1,0 +1,186 @@
+-- Reading always gives a system in clean form, and what is written is the one form of it.
+--     read-clean      any bytes
+--     one-form        writing what was read from a written block gives its bytes
+--     past-stays      bytes past the block stay, and so does the length
+-- Assumes nothing.
+use Prim.Native.Nat.{ℕ, zero, suc, _+_, _*_, _/_, _%_, _^_, _<_, _≤_, min}
+use mathlib.Core.Path.{_≡_, refl, sym, ap, _∙_}
+use mathlib.Core.Bool.{Bool, true, false, not, _&&_, _||_, cond}
+use mathlib.Core.List.{List, [], _∷_, _++_}
+use native.Mathlib.Nat.{not-suc-le-zero}
+use native.Mathlib.Omega.{arith}
+use lib.Dec.{eqb, ltb, lit<}
+use lib.ListN.{length, take, drop, getD, replicate, length-append, length-drop, length-take, length-replicate, getD-replicate, List·getD-eq-default}
+use lib.Seq.{drop-at, getD-drop, getD-take}
+use borrow.Author.Tests.{le-ltb, ltb-true, ltb-false}
+use Rattle.masks.specs.Fields.{bit, field}
+use Rattle.masks.proofs.Bits.{bit-field, field-cong}
+use Rattle.descriptors.specs.Status.{E, IP, reserved, clean}
+use Rattle.descriptors.specs.Descriptor.{zeros}
+use Rattle.registers.specs.Unit.{none, local, no-unit, ac}
+use Rattle.registers.specs.Shared.{entry}
+use Rattle.chip.specs.System.{present, unit, descriptor, each}
+use Rattle.chip.specs.Reset.{blank, nothing}
+use Rattle.chip.proofs.Each.{each-at, each-past, length-each}
+use Rattle.descriptors.specs.declared.descriptor.Descriptor.{Descriptor}
+use Rattle.registers.specs.declared.unit.Unit.{Unit}
+use Rattle.chip.specs.declared.system.System.{System}
+use Rattle.block.specs.Layout.{size, unit-place, descriptor-place, nine, rdp-of, byte-of, form, written}
+use Rattle.block.specs.Layout.{unit-of, descriptor-of, shared-of, system-of, read}
+use Rattle.block.specs.Clean.{Clean-descriptor, Clean-unit, Clean-shared, Clean}
+use Rattle.block.proofs.Round.{length-form, system-back}
+
+-- bytes, as a slice of u8 has them
+abbrev pub Bytes : List ℕ → Type 0
+Bytes b = (i : ℕ) → getD b i 0 < 2 ^ 8
+
+bytes-drop : (n : ℕ) (b : List ℕ) → Bytes b → Bytes (drop n b)
+bytes-drop n b h i = rw getD-drop (h (n + i))
+
+bytes-take : (n : ℕ) (b : List ℕ) → Bytes b → Bytes (take n b)
+bytes-take zero b h i = lit< tt
+bytes-take (suc n) [] h i = lit< tt
+bytes-take (suc n) (x ∷ b) h zero = h 0
+bytes-take (suc n) (x ∷ b) h (suc i) = bytes-take n b (λ k. h (suc k)) i
+
+word-fits : {x y : ℕ} → x < 2 ^ 8 → y < 2 ^ 8 → x + 256 * y < 2 ^ 16
+word-fits h k = omega arith
+
+-- the clean form of a status is clean, bit by bit
+kept : (x i : ℕ) → Bool
+kept x i = cond (reserved i || (eqb i IP && not (bit x E))) false (bit x i)
+
+clean-bit : (x i : ℕ) → i < 8 → bit (clean x) i ≡ kept x i
+unfolding clean kept
+clean-bit x i h = bit-field 8 (kept x) i h
+
+clean-twice : (x : ℕ) → clean (clean x) ≡ clean x
+unfolding clean kept
+clean-twice x =
+    field-cong 8 (kept (clean x)) (kept x)
+    (λ i h. rw (clean-bit x E (lit< tt), clean-bit x i h) (twice (reserved i || (eqb i IP && not (bit x E))) (bit x i)))
+  where
+    twice : (b v : Bool) → cond b false (cond b false v) ≡ cond b false v
+    twice true v = refl
+    twice false v = refl
+
+rdp-twice : (x : ℕ) → rdp-of (rdp-of x) ≡ rdp-of x
+unfolding bit
+rdp-twice x = go (bit x 7)
+  where
+    go : (b : Bool) → rdp-of (cond b none (x % 32)) ≡ cond b none (x % 32)
+    go true = refl
+    go false =
+        let low : x % 32 / 128 % 2 ≡ 0 = omega arith in
+        let same : x % 32 % 32 ≡ x % 32 = omega arith in
+        rw (low, same)
+
+clean-descriptor : (b : List ℕ) → Bytes b → Clean-descriptor (descriptor-of b)
+unfolding descriptor-of
+clean-descriptor b h = record {
+  lba = word-fits (h 0) (h 1);
+  lam = word-fits (h 2) (h 3);
+  pba = word-fits (h 4) (h 5);
+  asn = h 6;
+  ssr = clean-twice (getD b 7 0);
+  asm = h 8;
+}
+
+in-nine : (b : List ℕ) → Bytes b → (i : ℕ) → ac (unit-of b) i < 2 ^ 8
+unfolding unit-of each
+in-nine b h i = go (ltb i 9) refl
+  where
+    go : (t : Bool) → ltb i 9 ≡ t → getD (each 9 (λ k x. byte-of b k) (replicate 9 (local 0))) i (local 0) .value < 2 ^ 8
+    go true q =
+        let l : i < 9 = ltb-true i 9 q in
+        rw (each-at (local 0) 9 (λ k x. byte-of b k) (replicate 9 (local 0)) i l l) (h i)
+    go false q =
+        let l : 9 ≤ i = ltb-false i 9 q in
+        rw (List·getD-eq-default (nine (byte-of b)) (local 0) {n = i} l) (lit< tt)
+
+clean-unit : (b : List ℕ) → Bytes b → Clean-unit (unit-of b)
+unfolding unit-of
+clean-unit b h = record {
+  bytes = refl;
+  ac = in-nine b h;
+  dp = omega arith;
+  rdp = rdp-twice (getD b 13 0);
+  l = omega (arith, h 12);
+}
+
+clean-shared : (b : List ℕ) → size ≤ length b → Bytes b → Clean-shared (shared-of b)
+unfolding shared-of
+clean-shared b l h = record {
+  entries = simp (length-take, length-drop) (omega arith);
+  entry = bytes-take 16 (drop 16 b) (bytes-drop 16 b h);
+  ivr = h 2;
+  count = h 0;
+}
+
+-- what stands in an array whose first n elements were read
+module _ {A : Type 0} (d : A) (n k : ℕ) (g : ℕ → A) (z : A) where
+  filled : List A
+  filled = each n (λ i x. g i) (replicate k z)
+
+  filled-below : (i : ℕ) → i < n → i < k → getD filled i d ≡ g i
+  unfolding filled
+  filled-below i l h = each-at d n (λ i x. g i) (replicate k z) i l (rw length-replicate h)
+
+  filled-past : (i : ℕ) → n ≤ i → i < k → getD filled i d ≡ z
+  unfolding filled
+  filled-past i l h = each-past d n (λ i x. g i) (replicate k z) i l ∙ getD-replicate k i z d h
+
+  length-filled : length filled ≡ k
+  unfolding filled
+  length-filled = length-each n (λ i x. g i) (replicate k z) ∙ length-replicate k z
+
+clean-system : (b : List ℕ) → size ≤ length b → Bytes b → Clean (system-of b)
+unfolding system-of shared-of filled
+clean-system b l h =
+    let n = min (getD b 0 0) 6 in
+    let u : ℕ → Unit = λ m. unit-of (drop (unit-place m) b) in
+    let d : ℕ → Descriptor = λ i. descriptor-of (drop (descriptor-place i) b) in
+    record {
+      shared = clean-shared b l h;
+      places = (length-filled no-unit n 6 u blank, length-filled zeros (32 * n) 192 d zeros);
+      units = λ m k. rw (filled-below no-unit n 6 u blank m k (omega arith)) (clean-unit _ (bytes-drop (unit-place m) b h));
+      descriptors = λ i k. rw (filled-below zeros (32 * n) 192 d zeros i k (omega arith)) (clean-descriptor _ (bytes-drop (descriptor-place i) b h));
+      no-unit = λ m k q. filled-past no-unit n 6 u blank m k q;
+      no-descriptor = λ i k q. filled-past zeros (32 * n) 192 d zeros i k q;
+    }
+
+clean-nothing : Clean nothing
+clean-nothing = record {
+  shared = record { entries = refl; entry = bytes-zero 16; ivr = lit< tt; count = lit< tt };
+  places = (refl, refl);
+  units = λ m k. absurd (not-suc-le-zero k);
+  descriptors = λ i k. absurd (not-suc-le-zero k);
+  no-unit = λ m k q. getD-replicate 6 m blank no-unit q;
+  no-descriptor = λ i k q. getD-replicate 192 i zeros zeros q;
+}
+  where
+    bytes-zero : (n : ℕ) → Bytes (replicate n 0)
+    bytes-zero zero i = lit< tt
+    bytes-zero (suc n) zero = lit< tt
+    bytes-zero (suc n) (suc i) = bytes-zero n i
+
+pub read-clean : (b : List ℕ) → Bytes b → Clean (read b)
+unfolding read
+read-clean b h = go (ltb (length b) size) refl
+  where
+    go : (t : Bool) → ltb (length b) size ≡ t → Clean (cond t nothing (system-of b))
+    go true q = clean-nothing
+    go false q = clean-system b (ltb-false (length b) size q) h
+
+-- writing what was read from a written block gives its bytes
+pub one-form : (s : System) (r : List ℕ) → Clean s → form (read (form s ++ r)) ≡ form s
+one-form s r c = ap form (system-back s r c)
+
+-- bytes past the block stay
+pub past-stays : (b : List ℕ) (s : System) → length (s .shared .table) ≡ 16 → drop size (written b s) ≡ drop size b
+unfolding written
+past-stays b s e = go (ltb (length b) size)
+  where
+    go : (t : Bool) → drop size (cond t b (form s ++ drop size b)) ≡ drop size b
+    go true = refl
+    go false = drop-at (form s) (drop size b) size (length-form s e b)
