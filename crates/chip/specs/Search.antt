@@ -1,7 +1,8 @@
 -- The priority encoder: handbook 3.2.6 and 3.2.7. Descriptor 0 has the highest priority; of several
 -- units the lowest (document 01, "A bus access").
-use Prim.Native.Nat.{ℕ, suc, zero, _*_, _%_}
+use Prim.Native.Nat.{ℕ, suc, zero, _*_, _%_, _<_}
 use mathlib.Core.Bool.{Bool, true, false, _&&_, cond}
+use mathlib.Core.Path.{_≡_}
 use Rattle.descriptors.specs.Descriptor.{matches, pending, collides}
 use Rattle.registers.specs.Unit.{none}
 use Rattle.chip.specs.System.{present, descriptor}
@@ -20,6 +21,10 @@ first p from (suc n) = cond (p from) (At from) (first p (suc from) n)
 abbrev pub found : Found → Bool
 found (At i) = true
 found Nowhere = false
+
+-- a place that was found is one of the 192
+abbrev pub Placed : Found → Type 0
+Placed f = (i : ℕ) → f ≡ At i → i < 192
 
 -- 3.2.6, 3.2.7: the number of the descriptor selected by the priority encoder, or NVR or NVI
 abbrev pub number-of : Found → ℕ

@@ -1,7 +1,8 @@
 // A bus access: normal address translation, and the two faults (handbook 4.5.3).
 ghost use mathlib.Core.Path.{_≡_};
 ghost use Prim.Native.Nat.{_+_, _*_, _<_};
-ghost use Rattle.chip.specs.Access.{writes, touched, fault, violation, undefined, match-at, translate, access};
+ghost use Rattle.chip.specs.Access.{writes, touched, fault, violation, undefined, match-at, translate-at, access};
+ghost use Rattle.chip.specs.Search.{Placed};
 use crate::answer;
 use crate::answer::Answer;
 use crate::answer::Outcome;
@@ -76,11 +77,11 @@ impl System {
     }
 
     // 4.5.3.2, or a violation.
-    fn match_at(self, i: usize, cycle: Cycle, page: u16, number: u8, offset: u8) -> Outcome
+    fn match_at(mut self, i: usize, cycle: Cycle, page: u16, number: u8, offset: u8) -> Outcome
         requires { ⌜ i < 192 ⌝ }
         ensures { λ r. ⌜ r ≡ match-at i cycle page number offset self ⌝ }
     {
-        let d = self.descriptor(i);
+        let d = self.descriptors[i];
         let unit = (i / 32) as u8;
         let descriptor = (i % 32) as u8;
         let win = d.protected();
@@ -99,19 +100,16 @@ impl System {
             descriptor,
             win,
         };
-        self.with_descriptor(i, d.with_ssr(cycle.touched(d.ssr)))
-            .granted(answer)
+        self.descriptors[i] = d.with_ssr(cycle.touched(d.ssr));
+        self.granted(answer)
     }
 
-    // 4.5.3.
-    fn translate(self, code: usize, cycle: Cycle, address: u64) -> Outcome
-        requires { ⌜ address < 16777216 ⌝ }
-        ensures { λ r. ⌜ r ≡ translate code cycle address self ⌝ }
+    // 4.5.3, once the match is found.
+    fn translate_at(self, found: Found, cycle: Cycle, page: u16, number: u8, offset: u8) -> Outcome
+        requires { ⌜ Placed found ⌝ }
+        ensures { λ r. ⌜ r ≡ translate-at found cycle page number offset self ⌝ }
     {
-        let page = (address / 256) as u16;
-        let offset = (address % 256) as u8;
-        let number = self.shared.entry(code);
-        match self.in_system(Sought::Match(page, number)) {
+        match found {
             Found::At(i) => self.match_at(i, cycle, page, number, offset),
             Found::Nowhere => self.undefined(cycle, page, number)
                 .granted(Answer::Undefined),
@@ -132,6 +130,10 @@ impl System {
         if address > 0xFF_FFFF {
             return self.refused(Refusal::Address);
         }
-        self.translate(function_code as usize, cycle, address)
+        let page = (address / 256) as u16;
+        let offset = (address % 256) as u8;
+        let number = self.shared.entry(function_code as usize);
+        let found = self.in_system(Sought::Match(page, number));
+        self.translate_at(found, cycle, page, number, offset)
     }
 }

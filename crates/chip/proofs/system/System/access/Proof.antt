@@ -1,8 +1,10 @@
 -- `System::access` meets its contract: the checks in their order, then the translation. Assumes nothing.
 use borrow.Author.Needs.{needs}
 use mathlib.Core.Path.{sym, _∙_}
+use native.Mathlib.Omega.{arith}
 use borrow.Author.Tests.{lt-ltb, le-ltb}
-use Rattle.chip.specs.Access.{access}
+use Rattle.chip.specs.Access.{translate, access}
+use Rattle.chip.proofs.First.{first-found}
 use Rattle.masks.proofs.Free.{free}
 use Rattle.chip.proofs.system.System.access.Statement.{statement}
 use Rattle.chip.proofs.system.System.access.Tie as tie
@@ -27,15 +29,26 @@ returns-3 c =
     )
     (c .refused3 .ensures)
 
+translate-at-requires : tie.Need-translate-at-requires
+translate-at-requires c κs i e =
+    omega (arith, first-found _ 0 _ i (sym (c .in-system .ensures) ∙ e) .high)
+
 returns-4 : tie.Need-returns-4
-unfolding access
+unfolding access translate
 returns-4 c =
+    let tested = c .before .before .before in
     rw (
-      sym (c .before .before .before .before .miscounted .ensures) ∙ c .before .before .before .if1 .left,
-      le-ltb _ _ (c .before .before .if2 .left),
-      le-ltb _ _ (c .before .if3 .left),
+      sym (tested .before .before .before .miscounted .ensures) ∙ tested .before .before .if1 .left,
+      le-ltb _ _ (tested .before .if2 .left),
+      le-ltb _ _ (tested .if3 .left),
+      ← c .before .before .entry .ensures,
+      ← c .before .in-system .ensures,
     )
-    (c .translate .ensures)
+    (c .translate-at .ensures)
 
 pub access-spec : {M : Type 1} → statement M
-access-spec = tie.close (tie.spec free free returns free returns-2 free returns-3 (λ c κs. search needs) returns-4)
+access-spec =
+    tie.close
+    (tie.spec
+    free free returns free returns-2 free returns-3 (λ c. search needs) (λ c. search needs) free free
+    translate-at-requires returns-4)
