@@ -46,9 +46,13 @@ aarch64)
 *) stop "there is no way here to run x86-64 programs on $machine" ;;
 esac
 
+# A library that is older than the code is made again.
 find_library() {
     library=${CLEFTROMI_LIB:-$root/target/staticlib/libcleftromi.a}
-    [ -n "${CLEFTROMI_LIB:-}" ] || [ -f "$library" ] || (cd "$root" && rt staticlib cleftromi) >&2
+    if [ -z "${CLEFTROMI_LIB:-}" ]; then
+        [ -f "$library" ] && [ -z "$(find "$root/crates" -name '*.rt' -newer "$library" -print -quit)" ] ||
+            (rm -f "$library" && cd "$root" && rt staticlib cleftromi) >&2
+    fi
     [ -f "$library" ] || stop "there is no library at $library"
     library=$(readlink -f "$library") # a script may stand elsewhere when it compiles
 }

@@ -1,0 +1,40 @@
+-- No field of an answer touches another: each is read back from its own bits, as the C header reads it.
+-- Assumes nothing.
+use Prim.Native.Nat.{ℕ, _+_, _*_, _/_, _%_, _^_, _<_, _≤_}
+use mathlib.Core.Path.{_≡_}
+use mathlib.Core.Bool.{Bool, true, false}
+use native.Mathlib.Omega.{arith}
+use lib.Dec.{lit≤}
+use Rattle.registers.specs.Unit.{flag}
+use Rattle.chip.specs.declared.answer.Values.{Values}
+use Rattle.cleftromi.specs.Interface.{number-of}
+
+small : (b : Bool) → flag b ≤ 1
+small true = lit≤ tt
+small false = lit≤ tt
+
+pub record Fields (v : Values) (asserted : Bool) (a : ℕ) : Type 0 where
+  pub refusal : a % 2 ^ 8 ≡ v .number
+  pub kind : a / 2 ^ 8 % 2 ^ 4 ≡ v .kind % 2 ^ 4
+  pub irq : a / 2 ^ 12 % 2 ≡ flag asserted
+  pub win : a / 2 ^ 13 % 2 ≡ flag (v .win)
+  pub unit : a / 2 ^ 16 % 2 ^ 3 ≡ v .unit % 2 ^ 3
+  pub descriptor : a / 2 ^ 19 % 2 ^ 5 ≡ v .descriptor % 2 ^ 5
+  pub byte : a / 2 ^ 24 % 2 ^ 8 ≡ v .byte
+  pub address : a / 2 ^ 32 ≡ v .address % 2 ^ 24
+
+pub fields : (v : Values) (asserted : Bool) → v .number < 2 ^ 8 → v .byte < 2 ^ 8 → Fields v asserted (number-of v asserted)
+unfolding number-of
+fields v asserted n b =
+    let i = small asserted in
+    let w = small (v .win) in
+    record {
+      refusal = omega arith;
+      kind = omega arith;
+      irq = omega arith;
+      win = omega arith;
+      unit = omega arith;
+      descriptor = omega arith;
+      byte = omega arith;
+      address = omega arith;
+    }
