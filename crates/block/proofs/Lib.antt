@@ -2,3 +2,4 @@ pub mod Lists
 pub mod Parts
 pub mod Round
 pub mod Tidy
+pub mod Kept

@@ -54,7 +54,7 @@ clean-bit : (x i : ℕ) → i < 8 → bit (clean x) i ≡ kept x i
 unfolding clean kept
 clean-bit x i h = bit-field 8 (kept x) i h
 
-clean-twice : (x : ℕ) → clean (clean x) ≡ clean x
+pub clean-twice : (x : ℕ) → clean (clean x) ≡ clean x
 unfolding clean kept
 clean-twice x =
     field-cong 8 (kept (clean x)) (kept x)
