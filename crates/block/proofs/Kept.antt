@@ -6,7 +6,7 @@ use Prim.Native.Nat.{ℕ, zero, suc, _+_, _*_, _-_, _/_, _%_, _^_, _<_, _≤_, m
 use mathlib.Core.Path.{_≡_, refl, sym, ap, _∙_}
 use mathlib.Core.Bool.{Bool, true, false, not, _&&_, cond}
 use mathlib.Core.Logic.{_≢_}
-use mathlib.Core.List.{List, [], _∷_, map}
+use mathlib.Core.List.{List, [], _∷_, _++_, map}
 use native.Mathlib.Omega.{arith}
 use lib.Dec.{eqb, ltb, lit<}
 use lib.ListN.{length, getD, set, replicate, length-set, getD-replicate}
@@ -16,7 +16,7 @@ use Rattle.masks.specs.Fields.{bit, every, field}
 use Rattle.masks.proofs.Bits.{field-fits, every-at}
 use Rattle.descriptors.specs.Status.{E, raise, lower, clean, used, modified, disabled, rewritten}
 use Rattle.descriptors.specs.Descriptor.{bytes, zeros, enabled, protected, matches, collides, with-ssr, disable}
-use Rattle.registers.specs.Unit.{NO, LD, USA, WV, none, local, no-unit, ac, with-byte, with-dp, with-rw, report, latch, take, translated}
+use Rattle.registers.specs.Unit.{RW, NO, LD, USA, WV, none, local, no-unit, ac, with-byte, with-dp, with-rw, report, latch, take, translated}
 use Rattle.registers.specs.Unit.{for-translation, for-load, word, segment}
 use Rattle.descriptors.specs.declared.descriptor.Descriptor.{Descriptor}
 use Rattle.registers.specs.declared.unit.Byte.{Byte}
@@ -24,14 +24,26 @@ use Rattle.registers.specs.declared.unit.Unit.{Unit}
 use Rattle.registers.specs.declared.shared.Shared.{Shared}
 use Rattle.chip.specs.declared.system.System.{System}
 use Rattle.chip.specs.System.{present, unit, descriptor, with-units, with-shared, with-descriptor, with-unit, in-each, in-all, pointed}
-use Rattle.registers.specs.Shared.{entry, with-gsr}
+use Rattle.registers.specs.Shared.{gsr-of, entry, with-entry, with-gsr}
 use Rattle.registers.specs.declared.shared.Gsr.{Gsr}
-use Rattle.chip.specs.Reset.{blank, uninitialized, nothing, identity, unselected, fresh, unselectable}
+use Rattle.chip.specs.Reset.{blank, uninitialized, nothing, identity, unselected, fresh, unselectable, start, reset}
 use Rattle.chip.specs.Access.{writes, touched, fault, violation, undefined, match-at, translate-at, translate, access}
 use Rattle.chip.specs.Transfer.{transfer, write-status}
 use Rattle.chip.specs.Prepare.{inconsistent, send, send-all, prepare}
 use Rattle.chip.specs.Load.{blame, collision, load-at, load}
 use Rattle.chip.specs.Translation.{result-at, direct-translation}
+use Rattle.chip.specs.Register.{register-at, write-gsr, write, read, operate, register}
+use Rattle.chip.specs.Acknowledge.{acknowledge}
+use Rattle.chip.specs.Call.{performed}
+use Rattle.chip.specs.declared.call.Call.{Call}
+use Rattle.chip.specs.declared.call.Call.the-variants as call
+use Rattle.chip.specs.declared.answer.Refusal.{Refusal}
+use Rattle.chip.specs.declared.answer.Refusal.the-variants as refusal
+use Rattle.chip.proofs.Counts.{well-counted}
+use Rattle.chip.specs.declared.register.Register.{Register}
+use Rattle.chip.specs.declared.register.Register.the-variants as registers
+use Rattle.chip.specs.declared.register.Operation.{Operation}
+use Rattle.chip.specs.declared.register.Operation.the-variants as operation
 use Rattle.chip.specs.declared.answer.Reading.{Reading}
 use Rattle.chip.specs.declared.reset.Selected.{Selected}
 use Rattle.chip.specs.declared.reset.Selected.the-variants as selected
@@ -40,31 +52,33 @@ use Rattle.chip.specs.declared.access.Cycle.the-variants as cycle
 use Rattle.chip.specs.declared.search.Found.{Found}
 use Rattle.chip.specs.declared.search.Found.the-variants.{At, Nowhere}
 use Rattle.chip.specs.declared.answer.Outcome.{Outcome}
-use Rattle.chip.specs.Search.{matching, in-unit}
-use Rattle.chip.specs.Answer.{granted}
+use Rattle.chip.specs.Search.{matching, in-unit, irq}
+use Rattle.chip.specs.Answer.{granted, refused, checked, miscounted, absent}
 use Rattle.chip.proofs.First.{first-found}
 use Rattle.descriptors.proofs.Clash.{matches-enabled}
 use Rattle.chip.proofs.Each.{length-each}
 use Rattle.chip.proofs.Parts.{each-unit, past-units}
-use Rattle.block.specs.Layout.{rdp-of}
+use Rattle.block.specs.Layout.{rdp-of, form, read as read-block}
 use Rattle.masks.proofs.Laws.{gate-fits}
+use Rattle.block.proofs.Round.{system-back}
 use Rattle.block.proofs.Tidy.{clean-twice}
 use Rattle.block.specs.Clean.{Clean-descriptor, Clean-unit, Clean-shared, Clean}
 
 -- ---- one unit
 
-set-fits : (l : List Byte) (i : ℕ) (b : Byte) → ((k : ℕ) → getD l k (local 0) .value < 2 ^ 8) → b .value < 2 ^ 8
-    → (k : ℕ) → getD (set l i b) k (local 0) .value < 2 ^ 8
-set-fits [] i b h q k = h k
-set-fits (x ∷ l) zero b h q zero = q
-set-fits (x ∷ l) zero b h q (suc k) = h (suc k)
-set-fits (x ∷ l) (suc i) b h q zero = h 0
-set-fits (x ∷ l) (suc i) b h q (suc k) = set-fits l i b (λ k. h (suc k)) q k
+-- what holds of each element holds after a store of something of which it holds
+set-all : {A : Type 0} (P : A → Type 0) (d : A) (l : List A) (i : ℕ) (x : A) → ((k : ℕ) → P (getD l k d)) → P x
+    → (k : ℕ) → P (getD (set l i x) k d)
+set-all P d [] i x h q k = h k
+set-all P d (y ∷ l) zero x h q zero = q
+set-all P d (y ∷ l) zero x h q (suc k) = h (suc k)
+set-all P d (y ∷ l) (suc i) x h q zero = h 0
+set-all P d (y ∷ l) (suc i) x h q (suc k) = set-all P d l i x (λ k. h (suc k)) q k
 
 byte-kept : (u : Unit) (i : ℕ) (b : Byte) → Clean-unit u → b .value < 2 ^ 8 → Clean-unit (with-byte u i b)
 byte-kept u i b c q = record {
   bytes = length-set (u .accumulator) i b ∙ c .bytes;
-  ac = set-fits (u .accumulator) i b (c .ac) q;
+  ac = set-all (λ (b : Byte). b .value < 2 ^ 8) (local 0) (u .accumulator) i b (c .ac) q;
   dp = c .dp;
   rdp = c .rdp;
   l = c .l;
@@ -116,8 +130,10 @@ take-kept u d c q =
   where
     high : (x : ℕ) → x < 2 ^ 16 → x / 256 < 2 ^ 8
     high x h = omega arith
+
     low : (x : ℕ) → x % 256 < 2 ^ 8
     low x = omega arith
+
     nine-small : Small (bytes d)
     nine-small =
         also (high (d .lba) (q .lba)) (also (low (d .lba)) (also (high (d .lam) (q .lam)) (also (low (d .lam))
@@ -188,6 +204,14 @@ rw-kept u b c = record { bytes = c .bytes; ac = c .ac; dp = c .dp; rdp = c .rdp;
 
 gsr-kept : (h : Shared) (g : Gsr) → Clean-shared h → Clean-shared (with-gsr h g)
 gsr-kept h g c = record { entries = c .entries; entry = c .entry; ivr = c .ivr; count = c .count }
+
+entry-kept : (h : Shared) (i value : ℕ) → Clean-shared h → value < 2 ^ 8 → Clean-shared (with-entry h i value)
+entry-kept h i value c v = record {
+  entries = length-set (h .table) i value ∙ c .entries;
+  entry = set-all (λ (x : ℕ). x < 2 ^ 8) 0 (h .table) i value (c .entry) v;
+  ivr = c .ivr;
+  count = c .count;
+}
 
 -- 4.5.1
 zeros-fit : (n k : ℕ) → getD (replicate n 0) k 0 < 2 ^ 8
@@ -318,10 +342,13 @@ translate-kept code cycle address s c h = go (matching page number s) refl
   where
     page : ℕ
     page = address / 256
+
     number : ℕ
     number = entry (s .shared) code
+
     fits : page < 2 ^ 16
     fits = omega arith
+
     go : (f : Found) → matching page number s ≡ f → Clean (translate-at f cycle page number (address % 256) s .system)
     go (At i) e =
         let f = first-found (λ i. matches (descriptor s i) page number) 0 (32 * present s) i e in
@@ -405,14 +432,19 @@ translation-kept m s c h = go (matching page number t) refl
   where
     p : Clean (prepare for-translation m s) × (present (prepare for-translation m s) ≡ present s)
     p = prepare-kept for-translation m s c h
+
     t : System
     t = prepare for-translation m s
+
     page : ℕ
     page = word (unit t m) 0
+
     number : ℕ
     number = ac (unit t m) 6
+
     cleared : Clean (in-all (report NO none) t)
     cleared = units-kept t _ (p .0) (λ k u j. report-kept u NO none j (lit< tt) none-clean)
+
     go : (f : Found) → matching page number t ≡ f → Clean (result-at f page t .system)
     go Nowhere e = cleared
     go (At i) e =
@@ -421,3 +453,124 @@ translation-kept m s c h = go (matching page number t) refl
         unit-kept (in-all (report NO none) t) (i / 32) _ cleared there
         (translated-kept _ _ (i % 32) (cleared .units (i / 32) there)
         (gate-fits 16 (descriptor t i .lam) page (descriptor t i .pba)) (omega arith))
+
+-- 4.6.1: a register access; a value on the bus is a byte
+gsr-written : (value : ℕ) (s : System) → Clean s → Clean (write-gsr value s)
+unfolding write-gsr
+gsr-written value s c =
+    let t = shared-kept s _ c (gsr-kept (s .shared) (gsr-of value) (c .shared)) refl in
+    either Clean (gsr-of value .f) t
+    (units-kept _ _ t (λ m u q. report-kept u NO (u .rdp) q (lit< tt) (q .rdp)))
+
+write-kept : (r : Register) (m value : ℕ) (s : System) → Clean s → m < present s → value < 2 ^ 8 → Clean (write r m value s)
+unfolding write
+write-kept (registers.Ast i) m value s c h v = shared-kept s _ c (entry-kept (s .shared) i value (c .shared) v) refl
+write-kept (registers.Ac i) m value s c h v = units-kept s _ c (λ k u q. byte-kept u i _ q v)
+write-kept registers.Dp m value s c h v = units-kept s _ c (λ k u q. pointer-kept u (value % 32) q (omega arith))
+write-kept registers.Ivr m value s c h v =
+    shared-kept s _ c
+    (record { entries = c .shared .entries; entry = c .shared .entry; ivr = v; count = c .shared .count }) refl
+write-kept registers.Gsr m value s c h v = gsr-written value s c
+write-kept registers.Lsr m value s c h v =
+    units-kept s _ c (λ k u q. rw-kept _ (bit value RW) (report-kept u (value / 16) (u .rdp) q (omega arith) (q .rdp)))
+write-kept registers.Ssr m value s c h v = status-kept m value s c h
+write-kept registers.Idp m value s c h v = c
+write-kept registers.Rdp m value s c h v = c
+write-kept registers.DirectTranslation m value s c h v = c
+write-kept registers.LoadDescriptor m value s c h v = c
+write-kept registers.Null m value s c h v = c
+
+read-kept : (r : Register) (m : ℕ) (s : System) → Clean s → m < present s → Clean (read r m s .system)
+unfolding read
+read-kept (registers.Ast i) m s c h = c
+read-kept (registers.Ac i) m s c h = c
+read-kept registers.Dp m s c h = c
+read-kept registers.Ivr m s c h = c
+read-kept registers.Gsr m s c h = c
+read-kept registers.Lsr m s c h = c
+read-kept registers.Ssr m s c h = transfer-kept m s c h
+read-kept registers.Idp m s c h = c
+read-kept registers.Rdp m s c h = c
+read-kept registers.DirectTranslation m s c h = translation-kept m s c h
+read-kept registers.LoadDescriptor m s c h = load-kept m s c h
+read-kept registers.Null m s c h = c
+
+-- the byte that an operation puts on the bus
+abbrev pub value-of : Operation → ℕ
+value-of operation.Read = 0
+value-of (operation.Write value) = value
+
+operate-kept : (o : Operation) (r : Register) (m : ℕ) (s : System) → Clean s → m < present s → value-of o < 2 ^ 8
+    → Clean (operate o r m s .system)
+unfolding operate granted
+operate-kept operation.Read r m s c h v = read-kept r m s c h
+operate-kept (operation.Write value) r m s c h v = write-kept r m value s c h v
+
+-- the checks of a call: a refusal leaves the system, and past the last of them none applies
+none-of : List (Refusal × Bool) → Type 0
+none-of [] = ℕ
+none-of (c ∷ cs) = (c .1 ≡ false) × none-of cs
+
+checked-kept : (cs : List (Refusal × Bool)) (s : System) (o : Outcome) → Clean s → (none-of cs → Clean (o .system))
+    → Clean (checked cs s o .system)
+unfolding none-of refused
+checked-kept [] s o c k = k 0
+checked-kept (r ∷ cs) s o c k = go (r .1) (λ e. checked-kept cs s o c (λ n. k (e, n)))
+  where
+    go : (b : Bool) → (b ≡ false → Clean (checked cs s o .system)) → Clean (cond b (refused (r .0) s) (checked cs s o) .system)
+    go true later = c
+    go false later = later refl
+
+start-kept : (count : ℕ) (unit : Selected) (s : System) → Clean s → Clean (start count unit s .system)
+unfolding start none-of granted
+start-kept count selected s c =
+    checked-kept ((refusal.Count, miscounted count) ∷ (refusal.Unit, unselectable selected count) ∷ []) s _ c
+    (λ n. fresh-clean count selected (well-counted count (n .0)) (n .1 .0))
+
+access-kept : (code : ℕ) (cycle : Cycle) (address : ℕ) (s : System) → Clean s → Clean (access code cycle address s .system)
+unfolding access none-of
+access-kept code cycle address s c =
+    checked-kept
+    ((refusal.Count, miscounted (s .shared .count)) ∷ (refusal.FunctionCode, ltb 15 code) ∷ (refusal.Address, ltb 0xFFFFFF address) ∷ [])
+    s _ c
+    (λ n. translate-kept code cycle address s c (omega (arith, ltb-false 0xFFFFFF address (n .1 .1 .0))))
+
+register-kept : (m address : ℕ) (o : Operation) (s : System) → Clean s → value-of o < 2 ^ 8
+    → Clean (register m address o s .system)
+unfolding register none-of
+register-kept m address o s c v =
+    checked-kept
+    ((refusal.Count, miscounted (s .shared .count)) ∷ (refusal.Unit, absent m (s .shared .count)) ∷ (refusal.Register, ltb 0x3F address) ∷ [])
+    s _ c
+    (λ n.
+    let few = well-counted (s .shared .count) (n .0) in
+    let there = ltb-true m (s .shared .count) (not-false (ltb m (s .shared .count)) (n .1 .0)) in
+    operate-kept o (register-at address) m s c (omega arith) v)
+
+acknowledge-kept : (m : ℕ) (s : System) → Clean s → Clean (acknowledge m s .system)
+unfolding acknowledge granted
+acknowledge-kept m s c =
+    checked-kept
+    ((refusal.Count, miscounted (s .shared .count)) ∷ (refusal.Unit, absent m (s .shared .count)) ∷ (refusal.Interrupt, not (irq s)) ∷ [])
+    s (granted _ s) c (λ n. c)
+
+-- the byte that a call puts on the bus
+abbrev pub bus : Call → ℕ
+bus (call.Start count selected) = 0
+bus (call.Reset selected) = 0
+bus (call.Access code cycle address) = 0
+bus (call.Register unit address operation) = value-of operation
+bus (call.Acknowledge unit) = 0
+
+pub performed-clean : (c : Call) (s : System) → Clean s → bus c < 2 ^ 8 → Clean (performed c s .system)
+unfolding performed reset
+performed-clean (call.Start count selected) s c v = start-kept count selected s c
+performed-clean (call.Reset selected) s c v = start-kept (s .shared .count) selected s c
+performed-clean (call.Access code cycle address) s c v = access-kept code cycle address s c
+performed-clean (call.Register unit address operation) s c v = register-kept unit address operation s c v
+performed-clean (call.Acknowledge unit) s c v = acknowledge-kept unit s c
+
+-- So after a granted call the block reads as the system that the call left
+pub reads-back : (c : Call) (s : System) (rest : List ℕ) → Clean s → bus c < 2 ^ 8
+    → let t = performed c s .system in read-block (form t ++ rest) ≡ t
+reads-back c s rest h v = system-back (performed c s .system) rest (performed-clean c s h v)
