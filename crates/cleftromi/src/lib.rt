@@ -11,6 +11,9 @@ use chip::reset::Selected;
 // "None" for a unit.
 const NONE: u64 = 255;
 
+// The direction that reads: any other number writes.
+const READ: u64 = 0;
+
 // The refusal of a block that is too short.
 const SHORT: u64 = 7;
 
@@ -27,7 +30,7 @@ fn selected_by(number: u64) -> Selected
 fn cycle_by(direction: u64) -> Cycle
     ensures { λ r. ⌜ r ≡ cycle-by direction ⌝ }
 {
-    if direction == 0 {
+    if direction == READ {
         Cycle::Read
     } else {
         Cycle::Write
@@ -37,7 +40,7 @@ fn cycle_by(direction: u64) -> Cycle
 fn operation_by(direction: u64, value: u8) -> Operation
     ensures { λ r. ⌜ r ≡ operation-by direction value ⌝ }
 {
-    if direction == 0 {
+    if direction == READ {
         Operation::Read
     } else {
         Operation::Write(value)
