@@ -2,19 +2,19 @@
 --     descriptor-back, unit-back, shared-back     each piece
 --     system-back      a system in clean form is what its written form reads as, whatever follows
 -- Assumes nothing.
-use Prim.Native.Nat.{ℕ, zero, suc, _+_, _*_, _-_, _/_, _%_, _<_, _≤_}
+use Prim.Native.Nat.{ℕ, _+_, _*_, _-_, _/_, _%_, _<_, _≤_}
 use mathlib.Core.Path.{_≡_, refl, sym, ap, _∙_}
 use mathlib.Core.Bool.{Bool, true, false}
-use mathlib.Core.List.{List, [], _∷_, _++_, append-assoc}
+use mathlib.Core.List.{List, _++_, append-assoc}
 use native.Mathlib.Omega.{arith}
-use lib.ListN.{length, take, drop, getD, replicate, length-append, length-replicate}
-use lib.Seq.{ext-getD, take-all, take-at, drop-at, drop-drop}
+use lib.ListN.{length, drop, getD, replicate, length-append, length-replicate}
+use lib.Seq.{take-all, take-at, drop-at, drop-drop}
 use lib.Dec.{lit<}
 use borrow.Author.Tests.{le-ltb}
 use Rattle.masks.specs.Fields.{bit}
 use Rattle.masks.proofs.Bits.{bit-field}
 use Rattle.descriptors.specs.Descriptor.{zeros}
-use Rattle.registers.specs.Unit.{RW, local, byte, ac, flag, no-unit}
+use Rattle.registers.specs.Unit.{RW, local, byte, flag, no-unit}
 use Rattle.chip.specs.Reset.{blank}
 use Rattle.registers.specs.Shared.{gsr-of, gsr-byte}
 use Rattle.descriptors.specs.declared.descriptor.Descriptor.{Descriptor}

@@ -4,22 +4,22 @@
 --     past-stays      bytes past the block stay, and so does the length
 -- Assumes nothing.
 use Prim.Native.Nat.{ℕ, zero, suc, _+_, _*_, _/_, _%_, _^_, _<_, _≤_, min}
-use mathlib.Core.Path.{_≡_, refl, sym, ap, _∙_}
+use mathlib.Core.Path.{_≡_, refl, ap, _∙_}
 use mathlib.Core.Bool.{Bool, true, false, not, _&&_, _||_, cond}
 use mathlib.Core.List.{List, [], _∷_, _++_}
 use native.Mathlib.Nat.{not-suc-le-zero}
 use native.Mathlib.Omega.{arith}
 use lib.Dec.{eqb, ltb, lit<}
-use lib.ListN.{length, take, drop, getD, replicate, length-append, length-drop, length-take, length-replicate, getD-replicate, List·getD-eq-default}
-use lib.Seq.{drop-at, getD-drop, getD-take}
-use borrow.Author.Tests.{le-ltb, ltb-true, ltb-false}
-use Rattle.masks.specs.Fields.{bit, field}
+use lib.ListN.{length, take, drop, getD, replicate, length-drop, length-take, length-replicate, getD-replicate, List·getD-eq-default}
+use lib.Seq.{drop-at, getD-drop}
+use borrow.Author.Tests.{ltb-true, ltb-false}
+use Rattle.masks.specs.Fields.{bit}
 use Rattle.masks.proofs.Bits.{bit-field, field-cong}
 use Rattle.descriptors.specs.Status.{E, IP, reserved, clean}
 use Rattle.descriptors.specs.Descriptor.{zeros}
 use Rattle.registers.specs.Unit.{none, local, no-unit, ac}
 use Rattle.registers.specs.Shared.{entry}
-use Rattle.chip.specs.System.{present, unit, descriptor, each}
+use Rattle.chip.specs.System.{each}
 use Rattle.chip.specs.Reset.{blank, nothing}
 use Rattle.chip.proofs.Each.{each-at, each-past, length-each}
 use Rattle.descriptors.specs.declared.descriptor.Descriptor.{Descriptor}

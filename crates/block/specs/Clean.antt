@@ -1,7 +1,7 @@
 -- A system in clean form: every register within its bits, and nothing at or above the count.
 use Prim.Native.Nat.{ℕ, _*_, _^_, _<_, _≤_}
 use mathlib.Core.Path.{_≡_}
-use lib.ListN.{length, getD}
+use lib.ListN.{length}
 use Rattle.descriptors.specs.Status.{clean}
 use Rattle.descriptors.specs.Descriptor.{zeros}
 use Rattle.registers.specs.Unit.{ac}

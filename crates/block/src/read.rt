@@ -1,7 +1,7 @@
 // Reading a lent block: any bytes are some system.
 ghost use mathlib.Core.Path.{_≡_};
 ghost use Prim.Native.Nat.{_+_, _*_, _≤_, _<_, min};
-ghost use lib.ListN.{length, drop, replicate, take};
+ghost use lib.ListN.{length, drop};
 ghost use Rattle.chip.specs.System.{each};
 ghost use Rattle.block.specs.Layout.{nine, byte-of, unit-place, rdp-of, unit-of, descriptor-of, shared-of, read};
 use chip::system::System;

@@ -1,8 +1,8 @@
 -- `shared_of` meets its contract: the entries below i are read. Assumes nothing.
 use borrow.Author.Needs.{needs}
 use native.Mathlib.Omega.{arith}
-use Prim.Native.Nat.{_≤_, _+_, _-_}
-use mathlib.Core.Path.{_≡_, refl, sym, _∙_}
+use Prim.Native.Nat.{_≤_, _-_}
+use mathlib.Core.Path.{_≡_, refl}
 use lib.ListN.{length, getD, drop, replicate, length-drop}
 use lib.Seq.{getD-drop}
 use Rattle.chip.specs.System.{each}

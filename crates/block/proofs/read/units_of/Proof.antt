@@ -1,9 +1,8 @@
 -- `units_of` meets its contract: the units below m are read. Assumes nothing.
-use borrow.Author.Needs.{needs}
 use native.Mathlib.Omega.{arith}
 use Prim.Native.Nat.{_≤_, _-_}
 use mathlib.Core.Path.{_≡_, refl, _∙_}
-use lib.ListN.{length, drop, length-take, length-drop}
+use lib.ListN.{drop, length-take, length-drop}
 use Rattle.registers.specs.Unit.{no-unit}
 use Rattle.chip.specs.System.{each}
 use Rattle.block.specs.Layout.{unit-place, unit-of}

@@ -1,5 +1,4 @@
 -- `put_units` meets its contract: the units below m are written. Assumes nothing.
-use borrow.Author.Needs.{needs}
 use native.Mathlib.Omega.{arith}
 use Prim.Native.Nat.{_≤_, _*_, _-_}
 use mathlib.Core.Path.{_≡_, refl, _∙_}
