@@ -2,9 +2,10 @@
 --     copied-more  a loop that copies a list, one store a turn
 --     appended     a part lent to a function that writes its front
 --     further      the same, for one part after the other
+--     begun, next, ended    a loop that writes one piece after the other
 --     pieces-more  the same, a piece of w bytes in each turn of a loop
 -- Assumes nothing.
-use Prim.Native.Nat.{ℕ, zero, suc, _+_, _*_, _-_, _<_}
+use Prim.Native.Nat.{ℕ, zero, suc, _+_, _*_, _-_, _<_, _≤_}
 use mathlib.Core.Path.{_≡_, refl, ap, _∙_}
 use mathlib.Core.List.{List, [], _∷_, _++_, append-nil, append-assoc}
 use mathlib.Core.Logic.{⊎-elim}
@@ -13,7 +14,7 @@ use native.Mathlib.Numerals.{add-one}
 use native.Mathlib.Omega.{arith}
 use lib.ListN.{length, take, drop, getD, set, length-append, length-drop, drop-of-length-le}
 use lib.Seq.{take-at, drop-at, drop-drop}
-use borrow.Rule.Slice.PartMut.{putMid}
+use borrow.Rule.Slice.PartMut.{putMid, same-len-mid}
 use Rattle.block.specs.Layout.{pieces}
 use Rattle.block.proofs.Lists.{rest}
 
@@ -61,6 +62,27 @@ pieces-more w f h n e b t g q =
   where
     more : w * (n + 1) ≡ w * n + w
     more = omega arith
+
+-- A loop that writes n pieces of w bytes over e: m of them are written, and b is the slice so far
+abbrev pub Done : (w : ℕ) (f : ℕ → List ℕ) (n : ℕ) (e b : List ℕ) (m : ℕ) → Type 0
+Done w f n e b m = (m ≤ n) × (length b ≡ length e) × (b ≡ pieces m f ++ drop (w * m) e)
+
+pub begun : (w : ℕ) (f : ℕ → List ℕ) (n : ℕ) (e : List ℕ) → Done w f n e e 0
+unfolding pieces
+begun w f n e = let none : w * 0 ≡ 0 = omega arith in (omega arith, refl, rw none)
+
+pub next : (w : ℕ) (f : ℕ → List ℕ) → ((i : ℕ) → length (f i) ≡ w) → (n : ℕ) (e b t : List ℕ) (m : ℕ) → Done w f n e b m → m < n
+    → length t ≡ length (take (length b - w * m) (drop (w * m) b))
+    → t ≡ f m ++ drop w (take (length b - w * m) (drop (w * m) b))
+    → Done w f n e (putMid (w * m) (length b - w * m) b t) (m + 1)
+next w f h n e b t m d l k q = (
+  omega arith,
+  same-len-mid (w * m) (length b - w * m) b t k ∙ d .1,
+  pieces-more w f h m e b t (d .2) q,
+)
+
+pub ended : (w : ℕ) (f : ℕ → List ℕ) (n : ℕ) (e b : List ℕ) (m : ℕ) → Done w f n e b m → n ≤ m → b ≡ pieces n f ++ drop (w * n) e
+ended w f n e b m d l = let all : m ≡ n = omega arith in d .2 ∙ rw all
 
 -- piece m stands at w * m
 pub pieces-at : (w : ℕ) (f : ℕ → List ℕ) → ((i : ℕ) → length (f i) ≡ w) → (n m : ℕ) (t : List ℕ) → m < n

@@ -1,6 +1,6 @@
 -- The block that a host lends: where each register stands (docs/LAYOUTS.md). A word has its low byte first.
 use Prim.Native.Nat.{ℕ, zero, suc, _+_, _*_, _-_, _/_, _%_, min}
-use mathlib.Core.Bool.{cond}
+use mathlib.Core.Bool.{Bool, cond}
 use mathlib.Core.List.{List, [], _∷_, _++_}
 use lib.Dec.{ltb}
 use lib.ListN.{length, take, drop, getD, replicate}
@@ -19,6 +19,10 @@ use Rattle.chip.specs.declared.system.System.{System}
 -- how many bytes a host lends
 abbrev pub size : ℕ
 size = 4096
+
+-- a block that is too short
+abbrev pub short : (block : List ℕ) → Bool
+short b = ltb (length b) size
 
 -- where unit m and the descriptor at place i stand
 abbrev pub unit-place : (m : ℕ) → ℕ
@@ -67,7 +71,7 @@ form s =
 -- what a block holds after a system was written to it: the bytes past its size stay, and so does a
 -- block that is too short
 unfoldable pub written : (block : List ℕ) → System → List ℕ
-written b s = cond (ltb (length b) size) b (form s ++ drop size b)
+written b s = cond (short b) b (form s ++ drop size b)
 
 -- Reading. A word of two bytes
 abbrev pub word-at : List ℕ → (i : ℕ) → ℕ
@@ -116,4 +120,4 @@ system-of b =
 
 -- the same for a block of any length: one that is too short holds no unit
 unfoldable pub read : (block : List ℕ) → System
-read b = cond (ltb (length b) size) nothing (system-of b)
+read b = cond (short b) nothing (system-of b)

@@ -12,10 +12,10 @@ use borrow.Author.Tests.{eq-eqb, ne-eqb}
 use Rattle.chip.specs.Answer.{values}
 use Rattle.chip.specs.Call.{performed}
 use Rattle.chip.specs.declared.call.Call.{Call}
-use Rattle.block.specs.Layout.{size, read, written}
+use Rattle.block.specs.Layout.{size, short, read, written}
 use Rattle.block.proofs.Tidy.{Bytes, read-clean}
 use Rattle.block.proofs.Kept.{bus, reads-back}
-use Rattle.cleftromi.specs.Interface.{short, after}
+use Rattle.cleftromi.specs.Interface.{after}
 
 pub granted-reads : (c : Call) (b : List ℕ) → Bytes b → bus c < 2 ^ 8 → short b ≡ false
     → values (performed c (read b) .answer) .number ≡ 0 → read (after c b) ≡ performed c (read b) .system

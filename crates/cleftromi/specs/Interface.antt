@@ -2,12 +2,11 @@
 use Prim.Native.Nat.{ℕ, _+_, _*_, _%_, _^_}
 use mathlib.Core.Bool.{Bool, cond}
 use mathlib.Core.List.{List}
-use lib.Dec.{eqb, ltb}
-use lib.ListN.{length}
+use lib.Dec.{eqb}
 use Rattle.registers.specs.Unit.{flag}
 use Rattle.chip.specs.Answer.{values}
 use Rattle.chip.specs.Call.{performed}
-use Rattle.block.specs.Layout.{size, read, written}
+use Rattle.block.specs.Layout.{short, read, written}
 use Rattle.chip.specs.declared.access.Cycle.{Cycle}
 use Rattle.chip.specs.declared.access.Cycle.the-variants as cycle
 use Rattle.chip.specs.declared.register.Operation.{Operation}
@@ -41,11 +40,7 @@ number-of v irq =
 abbrev pub left : (block : List ℕ) → Outcome → List ℕ
 left b o = cond (eqb (values (o .answer) .number) 0) (written b (o .system)) b
 
--- 7: the lent block is too short
-abbrev pub short : List ℕ → Bool
-short b = ltb (length b) size
-
--- what a call answers, and what it leaves in the block
+-- what a call answers, and what it leaves in the block; 7: the lent block is too short
 unfoldable pub answer : Call → (block : List ℕ) → ℕ
 answer call b = cond (short b) 7 (number-of (values (performed call (read b) .answer)) (performed call (read b) .irq))
 

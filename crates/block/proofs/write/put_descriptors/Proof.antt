@@ -1,19 +1,16 @@
--- `put_descriptors` meets its contract: the descriptors below i are written. Assumes nothing.
+-- `put_descriptors` meets its contract: a piece of 9 bytes in each turn. Assumes nothing.
 use native.Mathlib.Omega.{arith}
-use Prim.Native.Nat.{_≤_, _*_, _-_}
-use mathlib.Core.Path.{_≡_, refl, _∙_}
-use mathlib.Core.List.{_++_}
-use lib.ListN.{length, drop, getD, length-take, length-drop}
+use Prim.Native.Nat.{_-_}
+use mathlib.Core.Path.{refl}
+use lib.ListN.{getD, length-take, length-drop}
 use Rattle.descriptors.specs.Descriptor.{zeros}
-use borrow.Rule.Slice.PartMut.{same-len-mid}
-use Rattle.block.specs.Layout.{pieces, descriptor-bytes}
-use Rattle.block.proofs.Parts.{pieces-more}
+use Rattle.block.specs.Layout.{descriptor-bytes}
+use Rattle.block.proofs.Parts.{Done, begun, next, ended}
 use Rattle.block.proofs.write.put_descriptors.Statement.{statement}
 use Rattle.block.proofs.write.put_descriptors.Tie as tie
 
 abbrev Inv-loop : tie.InvT-loop
-Inv-loop b₀ n descriptors i₀ b i =
-    (i ≤ n) × (length b ≡ length b₀) × (b ≡ pieces i (λ k. descriptor-bytes (getD descriptors k zeros)) ++ drop (9 * i) b₀)
+Inv-loop b₀ n descriptors i₀ b i = Done 9 (λ k. descriptor-bytes (getD descriptors k zeros)) n b₀ b i
 
 abbrev μ-loop : tie.MeasureT-loop
 μ-loop b₀ n descriptors i₀ b i = n - i
@@ -22,22 +19,16 @@ loop-again : tie.Need-loop-again Inv-loop μ-loop
 unfolding descriptor-bytes
 loop-again c =
     let at = c .before .before .before .before .before .before .loop in
-    let put = c .before .before .put-descriptor in (
-      omega arith,
-      same-len-mid (9 * at .i) (length (at .b) - 9 * at .i) (at .b) (put .last .0) (put .kept .0) ∙ at .inv .1,
-      pieces-more 9 _ (λ k. refl) (at .i) _ (at .b) (put .last .0) (at .inv .2) (put .ensures),
-    )
+    let put = c .before .before .put-descriptor in
+    next 9 _ (λ k. refl) _ _ (at .b) (put .last .0) (at .i) (at .inv) (omega arith) (put .kept .0) (put .ensures)
 
 returns : tie.Need-returns Inv-loop μ-loop
-returns c =
-    let all : c .before .loop .i ≡ c .before .before .before .args .n = omega arith in
-    c .before .loop .inv .2 ∙ rw all
+returns c = ended 9 _ _ _ _ _ (c .before .loop .inv) (c .loop-test .left)
 
 pub put-descriptors-spec : {M : Type 1} → statement M
-unfolding pieces
 put-descriptors-spec =
     tie.close
     (tie.spec
-    Inv-loop μ-loop (λ c. (omega arith, refl, refl)) (λ c. omega arith) (λ c. omega arith) (λ c. omega arith)
+    Inv-loop μ-loop (λ c. begun 9 _ _ _) (λ c. omega arith) (λ c. omega arith) (λ c. omega arith)
     (λ c. omega arith) (λ c. omega arith) (λ c. omega arith) (λ c κs. simp (length-take, length-drop) (omega arith))
     (λ c. omega arith) (λ c. omega arith) loop-again (λ c. c .before .loop .inv .1) returns)
