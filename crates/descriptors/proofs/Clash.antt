@@ -45,7 +45,14 @@ matches-parts d page number m =
 pub matches-enabled : (d : Descriptor) (page number : ℕ) → matches d page number ≡ true → enabled d ≡ true
 matches-enabled d page number m = matches-parts d page number m .0
 
--- two descriptors that match one page and one number clash
+matches-of : (d : Descriptor) (page number : ℕ) → enabled d ≡ true → matches (enable d) page number ≡ true → matches d page number ≡ true
+unfolding matches
+matches-of d page number e m =
+    let both = enable-matches d page number .0 m in
+    and-eq-true-iff (enabled d && range-match d page) (space-match d number) .1
+    (and-eq-true-iff (enabled d) (range-match d page) .1 (e, both .0), both .1)
+
+-- two descriptors that match one page and one number clash, and two that are enabled and clash match such
 pub matches-clash : (d e : Descriptor) (page number : ℕ) → page < 2 ^ 16 → number < 2 ^ 8
     → matches d page number ≡ true → matches e page number ≡ true → clashes d e ≡ true
 unfolding Clash
@@ -53,3 +60,10 @@ matches-clash d e page number p n md me =
     let a = matches-parts d page number md in
     let b = matches-parts e page number me in
     clash-law d e .1 (page, number, p, n, enable-matches d page number .1 (a .1, a .2), enable-matches e page number .1 (b .1, b .2))
+
+pub clash-matches : (d e : Descriptor) → enabled d ≡ true → enabled e ≡ true → clashes d e ≡ true
+    → (page : ℕ) × (number : ℕ) × (page < 2 ^ 16) × (number < 2 ^ 8) × (matches d page number ≡ true) × (matches e page number ≡ true)
+unfolding Clash
+clash-matches d e ed ee c =
+    let k = clash-law d e .0 c in
+    (k .0, k .1, k .2, k .3, matches-of d (k .0) (k .1) ed (k .4), matches-of e (k .0) (k .1) ee (k .5))
