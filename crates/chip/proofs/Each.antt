@@ -1,4 +1,4 @@
--- Laws of `each`: a loop that replaces one element after the other makes it. Assumes nothing.
+-- Laws of `each`: a loop that replaces one element after the other makes it; and of a store. Assumes nothing.
 use Prim.Native.Nat.{ℕ, zero, suc, _+_, _<_, _≤_}
 use mathlib.Core.Path.{_≡_, refl, ap}
 use mathlib.Core.List.{List, [], _∷_}
@@ -38,3 +38,22 @@ unfolding each
 length-each zero f xs = refl
 length-each (suc n) f [] = refl
 length-each (suc n) f (x ∷ xs) = ap suc (length-each n (λ i. f (suc i)) xs)
+
+-- what holds of each element holds after a store of something of which it holds
+pub stored : {A : Type 0} (P : ℕ → A → Type 0) (d : A) (l : List A) (i : ℕ) (x : A) → P i x → ((k : ℕ) → P k (getD l k d))
+    → (k : ℕ) → P k (getD (set l i x) k d)
+stored P d [] i x q h k = h k
+stored P d (y ∷ l) zero x q h zero = q
+stored P d (y ∷ l) zero x q h (suc k) = h (suc k)
+stored P d (y ∷ l) (suc i) x q h zero = h 0
+stored P d (y ∷ l) (suc i) x q h (suc k) = stored (λ k. P (suc k)) d l i x q (λ k. h (suc k)) k
+
+-- how each of the first n stands to what f makes of it; past the list's end there is nothing
+pub each-related : {A : Type 0} (R : A → A → Type 0) (d : A) (n : ℕ) (f : ℕ → A → A) (xs : List A) → R d d
+    → ((k : ℕ) (x : A) → R x (f k x)) → (k : ℕ) → k < n → R (getD xs k d) (getD (each n f xs) k d)
+unfolding each
+each-related R d zero f xs q h k l = absurd (not-suc-le-zero l)
+each-related R d (suc n) f [] q h k l = q
+each-related R d (suc n) f (x ∷ xs) q h zero l = h 0 x
+each-related R d (suc n) f (x ∷ xs) q h (suc k) l =
+    each-related R d n (λ i. f (suc i)) xs q (λ i. h (suc i)) k (le-of-suc-le-suc l)

@@ -1,14 +1,16 @@
 -- Laws of `first`: it finds the first place of which p holds, or there is none.
 --     first-at, first-nowhere      what a search that goes from place to place has shown
 --     first-found, first-missed    what its result tells
+--     found-of, at-some, nowhere   whether something is found
 -- Assumes nothing.
 use Prim.Native.Nat.{ℕ, zero, suc, _+_, _<_, _≤_}
-use mathlib.Core.Path.{_≡_, refl, ap}
+use mathlib.Core.Path.{_≡_, refl, sym, ap, _∙_}
 use mathlib.Core.Logic.{⊎-elim}
-use mathlib.Core.Bool.{Bool, true, false, cond}
+use mathlib.Core.Bool.{Bool, true, false, cond, false≢true, true≢false}
 use native.Mathlib.Nat.{eq-or-lt-of-le}
 use native.Mathlib.Omega.{arith}
-use Rattle.chip.specs.Search.{first}
+use Rattle.chip.specs.Search.{first, found}
+use Rattle.chip.specs.declared.search.Found.{Found}
 use Rattle.chip.specs.declared.search.Found.the-variants.{At, Nowhere}
 
 module _ (p : ℕ → Bool) where
@@ -64,6 +66,22 @@ module _ (p : ℕ → Bool) where
           → cond b (At from) (first p (suc from) n) ≡ Nowhere → p k ≡ false
       go true q later r = absurd (let z : _≡_ {A = ℕ} 0 1 = cc in omega arith)
       go false q later r = ⊎-elim (λ g. rw g at q) (λ g. later r g) (eq-or-lt-of-le a)
+
+-- where it is so of some place, something is found; what was found, and nothing, by name
+pub found-of : (p : ℕ → Bool) (n k : ℕ) → k < n → p k ≡ true → found (first p 0 n) ≡ true
+found-of p n k h e = go (first p 0 n) refl
+  where
+    go : (f : Found) → first p 0 n ≡ f → found f ≡ true
+    go (At i) q = refl
+    go Nowhere q = absurd (false≢true (sym (first-missed p 0 n q k (omega arith) (omega arith)) ∙ e))
+
+pub at-some : (f : Found) → found f ≡ true → (i : ℕ) × (f ≡ At i)
+at-some (At i) e = (i, refl)
+at-some Nowhere e = absurd (false≢true e)
+
+pub nowhere : (f : Found) → found f ≡ false → f ≡ Nowhere
+nowhere (At i) e = absurd (true≢false e)
+nowhere Nowhere e = refl
 
 -- what held of each place before i, and of i, holds of each before the next
 pub one-more : {P : ℕ → Type 0} (from i : ℕ) → ((k : ℕ) → from ≤ k → k < i → P k) → P i → (k : ℕ) → from ≤ k → k < i + 1 → P k

@@ -4,4 +4,9 @@ pub mod Units
 pub mod Parts
 pub mod Once
 pub mod Counts
+pub mod Checked
+pub mod Changes
+pub mod Apart
+pub mod Marked
+pub mod Loading
 pub mod Cases

@@ -1,9 +1,11 @@
 -- Load descriptor: handbook 4.6.3.2.
-use Prim.Native.Nat.{ℕ, _%_}
-use mathlib.Core.Bool.{Bool, _&&_, cond}
-use Rattle.descriptors.specs.Descriptor.{enabled, collides, disable}
+use Prim.Native.Nat.{ℕ, _*_, _%_, _^_, _<_}
+use mathlib.Core.Path.{_≡_}
+use mathlib.Core.Logic.{_≢_}
+use mathlib.Core.Bool.{Bool, true, _&&_, cond}
+use Rattle.descriptors.specs.Descriptor.{enabled, matches, collides, disable}
 use Rattle.registers.specs.Unit.{NO, LD, none, report, for-load, segment}
-use Rattle.chip.specs.System.{unit, descriptor, pointed, with-descriptor, in-each, in-all}
+use Rattle.chip.specs.System.{present, unit, descriptor, pointed, with-descriptor, in-each, in-all}
 use Rattle.chip.specs.Search.{found, in-system, in-unit}
 use Rattle.chip.specs.Answer.{reading}
 use Rattle.chip.specs.Prepare.{prepare}
@@ -18,6 +20,13 @@ use Rattle.chip.specs.declared.answer.Reading.{Reading}
 abbrev pub blame : Found → Unit → Unit
 blame (At i) u = report LD (i % 32) u
 blame Nowhere u = report NO none u
+
+-- a collision of d, about to be loaded into place i: some page and some number exist that d and an enabled
+-- descriptor at another place both match
+unfoldable pub Collision : Descriptor → (i : ℕ) → System → Type 0
+Collision d i s =
+    (page : ℕ) × (number : ℕ) × (k : ℕ) × (page < 2 ^ 16) × (number < 2 ^ 8) × (k < 32 * present s) × (k ≢ i)
+    × (matches d page number ≡ true) × (matches (descriptor s k) page number ≡ true)
 
 -- the load is refused: d asks to be enabled, and some enabled descriptor collides with it
 abbrev pub collision : Descriptor → System → Bool

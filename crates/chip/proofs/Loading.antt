@@ -1,0 +1,191 @@
+-- What a load answers, and what it leaves alone (demand 3, second and third sentence).
+--     prepared            to make the accumulators consistent changes no value in the unit that they come from
+--     load-refused        refused exactly when there is a collision
+--     load-granted        granted, the segment in the accumulator stands in the descriptor
+--     load-shared         it changes no shared register
+--     load-harmless       what was matched before a load into a disabled descriptor is matched after it
+-- Assumes nothing.
+use Prim.Native.Nat.{ℕ, zero, suc, _*_, _<_, _^_}
+use mathlib.Core.Path.{_≡_, refl, sym, ap, _∙_}
+use mathlib.Core.Logic.{_≢_, _↔_}
+use mathlib.Core.Bool.{Bool, true, false, cond, false≢true, and-eq-true-iff}
+use mathlib.Core.List.{List, [], _∷_}
+use native.Mathlib.Omega.{arith}
+use lib.ListN.{length, getD, set, length-set}
+use Rattle.masks.specs.Fields.{bit}
+use Rattle.descriptors.specs.Status.{E}
+use Rattle.descriptors.specs.Descriptor.{enabled, clashes, collides, disable, zeros}
+use Rattle.descriptors.proofs.Enable.{clean-e, disabled-e}
+use Rattle.descriptors.proofs.Clash.{matches-enabled, matches-clash, clash-matches}
+use Rattle.descriptors.specs.declared.descriptor.Descriptor.{Descriptor}
+use Rattle.registers.specs.Unit.{NO, none, report, local, global, ac, write-ac, segment, for-load}
+use Rattle.registers.specs.declared.unit.Byte.{Byte}
+use Rattle.registers.specs.declared.unit.Unit.{Unit}
+use Rattle.chip.specs.System.{present, unit, descriptor, pointed, with-units, with-descriptor, in-each, in-all}
+use Rattle.chip.specs.Prepare.{inconsistent, send, send-all, prepare}
+use Rattle.chip.specs.Search.{found, in-system, in-unit, matching}
+use Rattle.chip.specs.Answer.{reading}
+use Rattle.chip.specs.Load.{blame, Collision, collision, load-at, load}
+use Rattle.chip.specs.declared.system.System.{System}
+use Rattle.chip.specs.declared.search.Found.the-variants.{At}
+use Rattle.chip.proofs.Each.{length-each}
+use Rattle.chip.proofs.First.{first-found, found-of, at-some}
+use Rattle.chip.proofs.Parts.{each-unit, descriptor-there, descriptor-elsewhere}
+use Rattle.chip.proofs.Once.{Apart, matching-found, matching-is}
+use Rattle.chip.proofs.Changes.{prepare-places, load-changes}
+use Rattle.chip.proofs.Apart.{changes-apart}
+
+-- ---- 4.6.3: the accumulators made consistent
+
+-- v has the values and the pointer of u
+abbrev Same : Unit → Unit → Type 0
+Same u v = (v .dp ≡ u .dp) × ((j : ℕ) → ac v j ≡ ac u j)
+
+marked : (l : List Byte) (i j : ℕ) → getD (set l i (global (getD l i (local 0) .value))) j (local 0) .value ≡ getD l j (local 0) .value
+marked [] i j = refl
+marked (b ∷ l) zero zero = refl
+marked (b ∷ l) zero (suc j) = refl
+marked (b ∷ l) (suc i) zero = refl
+marked (b ∷ l) (suc i) (suc j) = marked l i j
+
+sent : (is : List ℕ) (m : ℕ) (s : System) → m < present s → length (s .units) ≡ 6 → Same (unit s m) (unit (send-all is m s) m)
+unfolding send with-units
+sent [] m s h l = (refl, λ j. refl)
+sent (i ∷ is) m s h l =
+    let later = sent is m (send i m s) h (length-each (present s) _ (s .units) ∙ l) in
+    let here : unit (send i m s) m ≡ write-ac i (ac (unit s m) i) (unit s m) = each-unit s _ m h (omega arith) in (
+      later .0 ∙ ap (λ (u : Unit). u .dp) here,
+      λ j. later .1 j ∙ ap (λ (u : Unit). ac u j) here ∙ marked (unit s m .accumulator) i j,
+    )
+
+prepared : (is : List ℕ) (m : ℕ) (s : System) → m < present s → length (s .units) ≡ 6 → Same (unit s m) (unit (prepare is m s) m)
+unfolding prepare
+prepared is m s h l = go (inconsistent is s)
+  where
+    go : (b : Bool) → Same (unit s m) (unit (cond b (send-all is m s) s) m)
+    go true = sent is m s h l
+    go false = (refl, λ j. refl)
+
+same-segment : (u v : Unit) → Same u v → segment v ≡ segment u
+same-segment u v h = rw (h .1 0, h .1 1, h .1 2, h .1 3, h .1 4, h .1 5, h .1 6, h .1 7, h .1 8)
+
+load-is : (m : ℕ) (s : System) → m < present s → length (s .units) ≡ 6
+    → load m s ≡ load-at (segment (unit s m)) (pointed m s) (prepare for-load m s)
+unfolding load
+load-is m s h l =
+    let k = prepared for-load m s h l in
+    rw (same-segment (unit s m) (unit (prepare for-load m s) m) k, k .0)
+
+-- ---- 4.6.3.2: the collision
+
+module _ (d : Descriptor) (i : ℕ) (s : System) (there : i < length (s .descriptors)) (asks : enabled d ≡ true) where
+  t : System
+  t = with-descriptor s i (disable (descriptor s i))
+
+  -- the descriptor that is loaded is compared with none of its own
+  out : (k : ℕ) → enabled (descriptor t k) ≡ true → k ≢ i
+  unfolding t
+  out k e q =
+      absurd (false≢true (sym (disabled-e (descriptor s i .ssr)) ∙ rw (q, descriptor-there s i (disable (descriptor s i)) there) at e))
+
+  collision-law : (collision d t ≡ true) ↔ Collision d i s
+  unfolding Collision t with-descriptor
+  collision-law = (to, from)
+    where
+      to : collision d t ≡ true → Collision d i s
+      to c =
+          let f = at-some (in-system (collides d) t) (and-eq-true-iff (enabled d) (found (in-system (collides d) t)) .0 c .1) in
+          let k = first-found (λ k. collides d (descriptor t k)) 0 (32 * present t) (f .0) (f .1) in
+          let both = and-eq-true-iff (enabled (descriptor t (f .0))) (clashes d (descriptor t (f .0))) .0 (k .here) in
+          let other = out (f .0) (both .0) in
+          let same = descriptor-elsewhere s i (f .0) (disable (descriptor s i)) other in
+          let m = clash-matches d (descriptor s (f .0)) asks (rw same at (both .0)) (rw same at (both .1)) in
+          (m .0, m .1, f .0, m .2, m .3, omega (arith, k .high), other, m .4, m .5)
+
+      from : Collision d i s → collision d t ≡ true
+      from (page, number, k, p, n, h, other, md, me) =
+          let same = descriptor-elsewhere s i k (disable (descriptor s i)) other in
+          rw asks
+          (found-of (λ k. collides d (descriptor t k)) (32 * present t) k h
+          (rw (same, matches-enabled (descriptor s k) page number me)
+          (matches-clash d (descriptor s k) page number p n md me)))
+
+  refused-law : (load-at d i s .byte ≡ 0xFF) ↔ Collision d i s
+  unfolding load-at t
+  refused-law = (λ e. collision-law .0 (back (collision d t) _ _ e), λ k. forth (collision d t) _ _ (collision-law .1 k))
+    where
+      back : (b : Bool) (x y : System) → cond b (reading 0xFF x) (reading 0x00 y) .byte ≡ 0xFF → b ≡ true
+      back true x y e = refl
+      back false x y e = absurd (omega arith)
+
+      forth : (b : Bool) (x y : System) → b ≡ true → cond b (reading 0xFF x) (reading 0x00 y) .byte ≡ 0xFF
+      forth true x y e = refl
+      forth false x y e = absurd (false≢true e)
+
+granted-law : (d : Descriptor) (i : ℕ) (s : System) → i < length (s .descriptors) → load-at d i s .byte ≢ 0xFF
+    → (load-at d i s .byte ≡ 0x00) × (descriptor (load-at d i s .system) i ≡ d)
+unfolding load-at with-units with-descriptor
+granted-law d i s there = go (collision d t)
+  where
+    t : System
+    t = with-descriptor s i (disable (descriptor s i))
+
+    go : (b : Bool)
+        → let r = cond b (reading 0xFF (in-each (λ k. blame (in-unit (collides d) k t)) t)) (reading 0x00 (in-all (report NO none) (with-descriptor t i d))) in
+        r .byte ≢ 0xFF → (r .byte ≡ 0x00) × (descriptor (r .system) i ≡ d)
+    go true n = absurd (n refl)
+    go false n = (refl, descriptor-there t i d (rw length-set there))
+
+-- no other descriptor, and nothing shared
+elsewhere : (d : Descriptor) (i : ℕ) (s : System) → (load-at d i s .system .shared ≡ s .shared)
+    × ((k : ℕ) → k ≢ i → descriptor (load-at d i s .system) k ≡ descriptor s k)
+unfolding load-at with-units with-descriptor
+elsewhere d i s = go (collision d t)
+  where
+    t : System
+    t = with-descriptor s i (disable (descriptor s i))
+
+    go : (b : Bool)
+        → let r = cond b (reading 0xFF (in-each (λ k. blame (in-unit (collides d) k t)) t)) (reading 0x00 (in-all (report NO none) (with-descriptor t i d))) in
+        (r .system .shared ≡ s .shared) × ((k : ℕ) → k ≢ i → descriptor (r .system) k ≡ descriptor s k)
+    go true = (refl, λ k n. descriptor-elsewhere s i k _ n)
+    go false = (refl, λ k n. descriptor-elsewhere t i k d n ∙ descriptor-elsewhere s i k _ n)
+
+-- and at unit m
+asked : (m : ℕ) (s : System) → bit (ac (unit s m) 7) E ≡ true → enabled (segment (unit s m)) ≡ true
+asked m s e = clean-e (ac (unit s m) 7) ∙ e
+
+module _ (m : ℕ) (s : System) (h : m < present s) (us : length (s .units) ≡ 6) (ds : length (s .descriptors) ≡ 192) where
+  places : (prepare for-load m s .descriptors ≡ s .descriptors) × (prepare for-load m s .shared ≡ s .shared)
+  places = prepare-places for-load m s
+
+  there : pointed m s < length (prepare for-load m s .descriptors)
+  there = rw (places .0) (omega arith)
+
+  pub load-refused : bit (ac (unit s m) 7) E ≡ true → (load m s .byte ≡ 0xFF) ↔ Collision (segment (unit s m)) (pointed m s) s
+  unfolding Collision prepare
+  load-refused e =
+      let law = refused-law (segment (unit s m)) (pointed m s) (prepare for-load m s) there (asked m s e) in
+      rw (load-is m s h us) (rw (places .0, places .1) at law)
+
+  pub load-granted : load m s .byte ≢ 0xFF → (load m s .byte ≡ 0x00) × (descriptor (load m s .system) (pointed m s) ≡ segment (unit s m))
+  load-granted = rw (load-is m s h us) (granted-law (segment (unit s m)) (pointed m s) (prepare for-load m s) there)
+
+  load-elsewhere : (load m s .system .shared ≡ s .shared) × ((k : ℕ) → k ≢ pointed m s → descriptor (load m s .system) k ≡ descriptor s k)
+  load-elsewhere =
+      let law = elsewhere (segment (unit s m)) (pointed m s) (prepare for-load m s) in
+      rw (load-is m s h us) (law .0 ∙ places .1, λ k n. law .1 k n ∙ ap (λ (l : List Descriptor). getD l k zeros) (places .0))
+
+  pub load-shared : load m s .system .shared ≡ s .shared
+  load-shared = load-elsewhere .0
+
+  pub load-harmless : Apart s → enabled (descriptor s (pointed m s)) ≡ false → (page number k : ℕ) → page < 2 ^ 16 → number < 2 ^ 8
+      → matching page number s ≡ At k
+      → (matching page number (load m s .system) ≡ At k) × (descriptor (load m s .system) k ≡ descriptor s k)
+  load-harmless apart off page number k p n e =
+      let f = matching-found s page number k e in
+      let same-place = load-elsewhere .1 k (λ q. absurd (false≢true (sym off ∙ ap (λ (k : ℕ). enabled (descriptor s k)) (sym q) ∙ matches-enabled (descriptor s k) page number (f .here)))) in (
+        matching-is (load m s .system) (changes-apart s (load m s .system) (load-changes m s h) ds apart .1) page number k p n (rw load-shared (omega (arith, f .high)))
+            (rw same-place (f .here)),
+        same-place,
+      )

@@ -1,0 +1,91 @@
+-- No stale neighbour (handbook 3.2.4): a byte of the accumulator that is marked global in two units has the same value in both.
+--     changes-agreed      after any changes
+--     performed-agreed    so after any call
+-- Assumes nothing.
+use Prim.Native.Nat.{ℕ, zero, suc, _<_}
+use mathlib.Core.Path.{_≡_, refl}
+use mathlib.Core.Bool.{true, false≢true}
+use mathlib.Core.List.{List, [], _∷_}
+use native.Mathlib.Omega.{arith}
+use lib.ListN.{getD, set, getD-replicate}
+use Rattle.registers.specs.Unit.{global, local, no-unit, byte, ac, write-ac}
+use Rattle.registers.specs.declared.unit.Byte.{Byte}
+use Rattle.registers.specs.declared.unit.Unit.{Unit}
+use Rattle.chip.specs.System.{present, unit, with-units, with-shared, with-descriptor, with-unit, in-each, in-all}
+use Rattle.chip.specs.Reset.{blank, unselected, fresh}
+use Rattle.chip.specs.Call.{performed}
+use Rattle.chip.specs.declared.system.System.{System}
+use Rattle.chip.specs.declared.reset.Selected.{Selected}
+use Rattle.chip.specs.declared.reset.Selected.the-variants as selected
+use Rattle.chip.specs.declared.call.Call.{Call}
+use Rattle.chip.proofs.Each.{stored, each-related}
+use Rattle.chip.proofs.Changes as changes
+use Rattle.chip.proofs.Changes.{Fewer, Changes, performed-changes}
+
+unfoldable pub Agreed : System → Type 0
+Agreed s =
+    (i m k : ℕ) → m < present s → k < present s
+    → byte (unit s m) i .global ≡ true → byte (unit s k) i .global ≡ true → ac (unit s m) i ≡ ac (unit s k) i
+
+fewer-agreed : (s : System) (us : List Unit) → ((k : ℕ) → k < present s → Fewer (unit s k) (getD us k no-unit))
+    → Agreed s → Agreed (with-units s us)
+unfolding Agreed with-units
+fewer-agreed s us h a i m k hm hk gm gk =
+    let em = h m hm i gm in
+    let ek = h k hk i gk in
+    rw (em, ek) (a i m k hm hk (rw em at gm) (rw ek at gk))
+
+units-agreed : (s : System) (f : ℕ → Unit → Unit) → ((m : ℕ) (u : Unit) → Fewer u (f m u)) → Agreed s → Agreed (in-each f s)
+units-agreed s f h = fewer-agreed s _ (each-related Fewer no-unit (present s) f (s .units) (λ i g. refl) h)
+
+unit-agreed : (s : System) (m : ℕ) (u : Unit) → Fewer (unit s m) u → Agreed s → Agreed (with-unit s m u)
+unit-agreed s m u h =
+    fewer-agreed s _ (λ k l. stored (λ k v. Fewer (unit s k) v) no-unit (s .units) m u h (λ k i g. refl) k)
+
+abbrev Alike : (b c : Byte) → Type 0
+Alike b c = b .global ≡ true → c .global ≡ true → b .value ≡ c .value
+
+-- a store of the same byte in two accumulators, of which either may be too short for it
+both-stored : (l r : List Byte) (i : ℕ) (x : Byte) (j : ℕ) → Alike (getD l j (local 0)) (getD r j (local 0))
+    → Alike (getD (set l i x) j (local 0)) (getD (set r i x) j (local 0))
+both-stored [] r i x j h g k = absurd (false≢true g)
+both-stored (b ∷ l) [] i x j h g k = absurd (false≢true k)
+both-stored (b ∷ l) (c ∷ r) zero x zero h g k = refl
+both-stored (b ∷ l) (c ∷ r) zero x (suc j) h g k = h g k
+both-stored (b ∷ l) (c ∷ r) (suc i) x zero h g k = h g k
+both-stored (b ∷ l) (c ∷ r) (suc i) x (suc j) h g k = both-stored l r i x j h g k
+
+-- 4.6.3.1: a global write
+global-agreed : (s : System) (i value : ℕ) → Agreed s → Agreed (in-all (write-ac i value) s)
+unfolding Agreed with-units
+global-agreed s i value a j m k hm hk =
+    rw (at m hm, at k hk) (both-stored (unit s m .accumulator) (unit s k .accumulator) i (global value) j (a j m k hm hk))
+  where
+    at : (k : ℕ) → k < present s → unit (in-all (write-ac i value) s) k ≡ write-ac i value (unit s k)
+    at = each-related (λ u v. v ≡ write-ac i value u) no-unit (present s) (λ k. write-ac i value) (s .units) refl (λ k u. refl)
+
+-- 4.5.1
+pub fresh-agreed : (count : ℕ) (selected : Selected) → Agreed (fresh count selected)
+unfolding fresh unselected Agreed with-shared with-descriptor
+fresh-agreed count = elim [ selected.Nobody ↦ cleared | selected.Unit m ↦ cleared ]
+  where
+    cleared : Agreed (unselected count)
+    cleared =
+        units-agreed _ _ (λ m u i g. refl)
+        (λ i m k hm hk. rw (getD-replicate 6 m blank no-unit (omega arith), getD-replicate 6 k blank no-unit (omega arith)) (λ gm gk. refl))
+
+-- ---- any changes
+
+pub changes-agreed : (s t : System) → Changes s t → Agreed s → Agreed t
+unfolding Agreed with-shared with-descriptor
+changes-agreed s t changes.stays a = a
+changes-agreed s t (changes.renewed count selected few h) a = fresh-agreed count selected
+changes-agreed s t (changes.units {t = t′} f h c) a = units-agreed t′ f h (changes-agreed s t′ c a)
+changes-agreed s t (changes.one-unit {t = t′} m u h c) a = unit-agreed t′ m u h (changes-agreed s t′ c a)
+changes-agreed s t (changes.global {t = t′} i value c) a = global-agreed t′ i value (changes-agreed s t′ c a)
+changes-agreed s t (changes.shared {t = t′} h e c) a = rw e (changes-agreed s t′ c a)
+changes-agreed s t (changes.status {t = t′} i ssr inside h c) a = changes-agreed s t′ c a
+changes-agreed s t (changes.loaded {t = t′} i d inside clear c) a = changes-agreed s t′ c a
+
+pub performed-agreed : (c : Call) (s : System) → Agreed s → Agreed (performed c s .system)
+performed-agreed c s a = changes-agreed s (performed c s .system) (performed-changes c s) a
