@@ -6,7 +6,7 @@ use Prim.Native.Nat.{ℕ, zero, suc, _+_, _*_, _-_, _/_, _%_, _^_, _<_, _≤_}
 use mathlib.Core.Path.{_≡_, refl, _∙_}
 use mathlib.Core.Bool.{Bool, true, false, not, _&&_, cond}
 use mathlib.Core.Logic.{_≢_}
-use mathlib.Core.List.{List, [], _∷_, _++_, map}
+use mathlib.Core.List.{List, [], _∷_, map}
 use native.Mathlib.Omega.{arith}
 use lib.Dec.{eqb, ltb, lit<}
 use lib.ListN.{length, getD, set, replicate, length-set, getD-replicate}
@@ -26,20 +26,18 @@ use Rattle.chip.specs.declared.system.System.{System}
 use Rattle.chip.specs.System.{present, unit, descriptor, with-units, with-shared, with-descriptor, with-unit, in-each, in-all, pointed}
 use Rattle.registers.specs.Shared.{gsr-of, entry, with-entry, with-gsr}
 use Rattle.registers.specs.declared.shared.Gsr.{Gsr}
-use Rattle.chip.specs.Reset.{blank, uninitialized, nothing, identity, unselected, fresh, unselectable, start, reset}
-use Rattle.chip.specs.Access.{writes, touched, fault, violation, undefined, match-at, translate-at, translate, access}
+use Rattle.chip.specs.Reset.{blank, uninitialized, nothing, identity, unselected, fresh, unselectable}
+use Rattle.chip.specs.Access.{writes, touched, fault, violation, undefined, match-at, translate-at, translate}
 use Rattle.chip.specs.Transfer.{transfer, write-status}
 use Rattle.chip.specs.Prepare.{inconsistent, send, send-all, prepare}
 use Rattle.chip.specs.Load.{blame, collision, load-at, load}
 use Rattle.chip.specs.Translation.{result-at, direct-translation}
-use Rattle.chip.specs.Register.{register-at, write-gsr, write, read, operate, register}
-use Rattle.chip.specs.Acknowledge.{acknowledge}
+use Rattle.chip.specs.Register.{register-at, write-gsr, write, read, operate}
 use Rattle.chip.specs.Call.{performed}
 use Rattle.chip.specs.declared.call.Call.{Call}
 use Rattle.chip.specs.declared.call.Call.the-variants as call
-use Rattle.chip.specs.declared.answer.Refusal.{Refusal}
-use Rattle.chip.specs.declared.answer.Refusal.the-variants as refusal
-use Rattle.chip.proofs.Counts.{well-counted}
+use Rattle.chip.proofs.Counts.{well-counted, counted-present}
+use Rattle.chip.proofs.Checked.{either, none-of, checks, unrefused, performed-law}
 use Rattle.chip.specs.declared.register.Register.{Register}
 use Rattle.chip.specs.declared.register.Register.the-variants as registers
 use Rattle.chip.specs.declared.register.Operation.{Operation}
@@ -52,33 +50,23 @@ use Rattle.chip.specs.declared.access.Cycle.the-variants as cycle
 use Rattle.chip.specs.declared.search.Found.{Found}
 use Rattle.chip.specs.declared.search.Found.the-variants.{At, Nowhere}
 use Rattle.chip.specs.declared.answer.Outcome.{Outcome}
-use Rattle.chip.specs.Search.{matching, in-unit, irq}
-use Rattle.chip.specs.Answer.{granted, refused, checked, miscounted, absent}
+use Rattle.chip.specs.Search.{matching, in-unit}
+use Rattle.chip.specs.Answer.{granted}
 use Rattle.chip.proofs.First.{first-found}
 use Rattle.descriptors.proofs.Clash.{matches-enabled}
-use Rattle.chip.proofs.Each.{length-each}
+use Rattle.chip.proofs.Each.{length-each, stored}
 use Rattle.chip.proofs.Parts.{each-unit, past-units}
-use Rattle.block.specs.Layout.{rdp-of, form, read as read-block}
+use Rattle.block.specs.Layout.{rdp-of}
 use Rattle.masks.proofs.Laws.{gate-fits}
-use Rattle.block.proofs.Round.{system-back}
 use Rattle.block.proofs.Tidy.{clean-twice}
 use Rattle.block.specs.Clean.{Clean-descriptor, Clean-unit, Clean-shared, Clean}
 
 -- ---- one unit
 
--- what holds of each element holds after a store of something of which it holds
-set-all : {A : Type 0} (P : A → Type 0) (d : A) (l : List A) (i : ℕ) (x : A) → ((k : ℕ) → P (getD l k d)) → P x
-    → (k : ℕ) → P (getD (set l i x) k d)
-set-all P d [] i x h q k = h k
-set-all P d (y ∷ l) zero x h q zero = q
-set-all P d (y ∷ l) zero x h q (suc k) = h (suc k)
-set-all P d (y ∷ l) (suc i) x h q zero = h 0
-set-all P d (y ∷ l) (suc i) x h q (suc k) = set-all P d l i x (λ k. h (suc k)) q k
-
 byte-kept : (u : Unit) (i : ℕ) (b : Byte) → Clean-unit u → b .value < 2 ^ 8 → Clean-unit (with-byte u i b)
 byte-kept u i b c q = record {
   bytes = length-set (u .accumulator) i b ∙ c .bytes;
-  ac = set-all (λ (b : Byte). b .value < 2 ^ 8) (local 0) (u .accumulator) i b (c .ac) q;
+  ac = stored (λ k (b : Byte). b .value < 2 ^ 8) (local 0) (u .accumulator) i b q (c .ac);
   dp = c .dp;
   rdp = c .rdp;
   l = c .l;
@@ -111,7 +99,7 @@ translated-kept u page n c h k =
     report-kept _ _ n (pointer-kept _ n (byte-kept _ 5 _ (byte-kept u 4 _ c (omega arith)) (omega arith)) k)
     (lit< tt) (number-clean n k)
 
-status-fits : (x : ℕ) → clean x ≡ x → x < 2 ^ 8
+pub status-fits : (x : ℕ) → clean x ≡ x → x < 2 ^ 8
 unfolding clean
 status-fits x e = rw (← e) (field-fits 8 _)
 
@@ -208,7 +196,7 @@ gsr-kept h g c = record { entries = c .entries; entry = c .entry; ivr = c .ivr; 
 entry-kept : (h : Shared) (i value : ℕ) → Clean-shared h → value < 2 ^ 8 → Clean-shared (with-entry h i value)
 entry-kept h i value c v = record {
   entries = length-set (h .table) i value ∙ c .entries;
-  entry = set-all (λ (x : ℕ). x < 2 ^ 8) 0 (h .table) i value (c .entry) v;
+  entry = stored (λ k (x : ℕ). x < 2 ^ 8) 0 (h .table) i value v (c .entry);
   ivr = c .ivr;
   count = c .count;
 }
@@ -257,7 +245,7 @@ unfolding unselected
 unselected-clean count h =
     units-kept _ _ (empty-clean count h) (λ m u c. report-kept u NO none c (lit< tt) none-clean)
 
-fresh-clean : (count : ℕ) (unit : Selected) → count ≤ 6 → unselectable unit count ≡ false → Clean (fresh count unit)
+pub fresh-clean : (count : ℕ) (unit : Selected) → count ≤ 6 → unselectable unit count ≡ false → Clean (fresh count unit)
 unfolding fresh unselected with-units with-shared
 fresh-clean count selected.Nobody h q = unselected-clean count h
 fresh-clean count (selected.Unit m) h q =
@@ -314,10 +302,6 @@ modified-clean : (x : ℕ) → clean x ≡ x → clean (modified x) ≡ modified
 unfolding modified-test
 modified-clean x c = eqb-true _ _ (rw (eq-eqb _ _ c) at (every-at 256 modified-test .0 all-modified x (status-fits x c)))
 
-either : {A : Type 0} (P : A → Type 0) (b : Bool) {x y : A} → P x → P y → P (cond b x y)
-either P true h k = h
-either P false h k = k
-
 ssr-kept : (d : Descriptor) (ssr : ℕ) → Clean-descriptor d → clean ssr ≡ ssr → Clean-descriptor (with-ssr d ssr)
 ssr-kept d ssr c e = record { lba = c .lba; lam = c .lam; pba = c .pba; asn = c .asn; ssr = e; asm = c .asm }
 
@@ -332,8 +316,8 @@ match-kept i cycle page number offset s c h e k l =
     let d = descriptor s i in
     let q = c .descriptors i h in
     either (λ (o : Outcome). Clean (o .system)) (writes cycle && protected d)
-    (violation-kept cycle page number (i / 32) (i % 32) s c k l (omega arith) (omega arith))
-    (descriptor-kept s i _ c h (ssr-kept d _ q (touched-clean cycle (d .ssr) (q .ssr) e)))
+    (λ w. violation-kept cycle page number (i / 32) (i % 32) s c k l (omega arith) (omega arith))
+    (λ w. descriptor-kept s i _ c h (ssr-kept d _ q (touched-clean cycle (d .ssr) (q .ssr) e)))
 
 translate-kept : (code : ℕ) (cycle : Cycle) (address : ℕ) (s : System) → Clean s → address < 2 ^ 24
     → Clean (translate code cycle address s .system)
@@ -372,7 +356,7 @@ status-kept m value s c h =
     let d = descriptor s i in
     descriptor-kept s i _ c (pointed-there m s h)
     (ssr-kept d _ (c .descriptors i (pointed-there m s h))
-    (either (λ (x : ℕ). clean x ≡ x) (bit (d .ssr) E) (clean-twice value) (clean-twice (lower E value))))
+    (either (λ (x : ℕ). clean x ≡ x) (bit (d .ssr) E) (λ e. clean-twice value) (λ e. clean-twice (lower E value))))
 
 -- 4.6.3: what a load and a direct translation do first
 send-all-kept : (is : List ℕ) (m : ℕ) (s : System) → Clean s → m < present s
@@ -386,7 +370,7 @@ prepare-kept : (is : List ℕ) (m : ℕ) (s : System) → Clean s → m < presen
     → Clean (prepare is m s) × (present (prepare is m s) ≡ present s)
 unfolding prepare
 prepare-kept is m s c h =
-    either (λ (t : System). Clean t × (present t ≡ present s)) (inconsistent is s) (send-all-kept is m s c h) (c, refl)
+    either (λ (t : System). Clean t × (present t ≡ present s)) (inconsistent is s) (λ e. send-all-kept is m s c h) (λ e. (c, refl))
 
 -- 4.6.3.2
 segment-clean : (u : Unit) → Clean-unit u → Clean-descriptor (segment u)
@@ -414,8 +398,8 @@ load-at-kept d i s c q h =
     let t = with-descriptor s i (disable e) in
     let k : Clean t = descriptor-kept s i (disable e) c h (ssr-kept e _ (c .descriptors i h) (clean-twice (lower E (e .ssr)))) in
     either (λ (r : Reading). Clean (r .system)) (collision d t)
-    (units-kept t _ k (λ m u j. blame-kept (in-unit (collides d) m t) u j))
-    (units-kept _ _ (descriptor-kept t i d k h q) (λ m u j. report-kept u NO none j (lit< tt) none-clean))
+    (λ w. units-kept t _ k (λ m u j. blame-kept (in-unit (collides d) m t) u j))
+    (λ w. units-kept _ _ (descriptor-kept t i d k h q) (λ m u j. report-kept u NO none j (lit< tt) none-clean))
 
 load-kept : (m : ℕ) (s : System) → Clean s → m < present s → Clean (load m s .system)
 unfolding load
@@ -459,8 +443,8 @@ gsr-written : (value : ℕ) (s : System) → Clean s → Clean (write-gsr value 
 unfolding write-gsr
 gsr-written value s c =
     let t = shared-kept s _ c (gsr-kept (s .shared) (gsr-of value) (c .shared)) refl in
-    either Clean (gsr-of value .f) t
-    (units-kept _ _ t (λ m u q. report-kept u NO (u .rdp) q (lit< tt) (q .rdp)))
+    either Clean (gsr-of value .f) (λ w. t)
+    (λ w. units-kept _ _ t (λ m u q. report-kept u NO (u .rdp) q (lit< tt) (q .rdp)))
 
 write-kept : (r : Register) (m value : ℕ) (s : System) → Clean s → m < present s → value < 2 ^ 8 → Clean (write r m value s)
 unfolding write
@@ -506,54 +490,6 @@ unfolding operate granted
 operate-kept operation.Read r m s c h v = read-kept r m s c h
 operate-kept (operation.Write value) r m s c h v = write-kept r m value s c h v
 
--- the checks of a call: a refusal leaves the system, and past the last of them none applies
-none-of : List (Refusal × Bool) → Type 0
-none-of [] = ℕ
-none-of (c ∷ cs) = (c .1 ≡ false) × none-of cs
-
-checked-kept : (cs : List (Refusal × Bool)) (s : System) (o : Outcome) → Clean s → (none-of cs → Clean (o .system))
-    → Clean (checked cs s o .system)
-unfolding none-of refused
-checked-kept [] s o c k = k 0
-checked-kept (r ∷ cs) s o c k = go (r .1) (λ e. checked-kept cs s o c (λ n. k (e, n)))
-  where
-    go : (b : Bool) → (b ≡ false → Clean (checked cs s o .system)) → Clean (cond b (refused (r .0) s) (checked cs s o) .system)
-    go true later = c
-    go false later = later refl
-
-start-kept : (count : ℕ) (unit : Selected) (s : System) → Clean s → Clean (start count unit s .system)
-unfolding start none-of granted
-start-kept count selected s c =
-    checked-kept ((refusal.Count, miscounted count) ∷ (refusal.Unit, unselectable selected count) ∷ []) s _ c
-    (λ n. fresh-clean count selected (well-counted count (n .0)) (n .1 .0))
-
-access-kept : (code : ℕ) (cycle : Cycle) (address : ℕ) (s : System) → Clean s → Clean (access code cycle address s .system)
-unfolding access none-of
-access-kept code cycle address s c =
-    checked-kept
-    ((refusal.Count, miscounted (s .shared .count)) ∷ (refusal.FunctionCode, ltb 15 code) ∷ (refusal.Address, ltb 0xFFFFFF address) ∷ [])
-    s _ c
-    (λ n. translate-kept code cycle address s c (omega (arith, ltb-false 0xFFFFFF address (n .1 .1 .0))))
-
-register-kept : (m address : ℕ) (o : Operation) (s : System) → Clean s → value-of o < 2 ^ 8
-    → Clean (register m address o s .system)
-unfolding register none-of
-register-kept m address o s c v =
-    checked-kept
-    ((refusal.Count, miscounted (s .shared .count)) ∷ (refusal.Unit, absent m (s .shared .count)) ∷ (refusal.Register, ltb 0x3F address) ∷ [])
-    s _ c
-    (λ n.
-    let few = well-counted (s .shared .count) (n .0) in
-    let there = ltb-true m (s .shared .count) (not-false (ltb m (s .shared .count)) (n .1 .0)) in
-    operate-kept o (register-at address) m s c (omega arith) v)
-
-acknowledge-kept : (m : ℕ) (s : System) → Clean s → Clean (acknowledge m s .system)
-unfolding acknowledge granted
-acknowledge-kept m s c =
-    checked-kept
-    ((refusal.Count, miscounted (s .shared .count)) ∷ (refusal.Unit, absent m (s .shared .count)) ∷ (refusal.Interrupt, not (irq s)) ∷ [])
-    s (granted _ s) c (λ n. c)
-
 -- the byte that a call puts on the bus
 abbrev pub bus : Call → ℕ
 bus (call.Start count selected) = 0
@@ -563,14 +499,15 @@ bus (call.Register unit address operation) = value-of operation
 bus (call.Acknowledge unit) = 0
 
 pub performed-clean : (c : Call) (s : System) → Clean s → bus c < 2 ^ 8 → Clean (performed c s .system)
-unfolding performed reset
-performed-clean (call.Start count selected) s c v = start-kept count selected s c
-performed-clean (call.Reset selected) s c v = start-kept (s .shared .count) selected s c
-performed-clean (call.Access code cycle address) s c v = access-kept code cycle address s c
-performed-clean (call.Register unit address operation) s c v = register-kept unit address operation s c v
-performed-clean (call.Acknowledge unit) s c v = acknowledge-kept unit s c
-
--- So after a granted call the block reads as the system that the call left
-pub reads-back : (c : Call) (s : System) (rest : List ℕ) → Clean s → bus c < 2 ^ 8
-    → let t = performed c s .system in read-block (form t ++ rest) ≡ t
-reads-back c s rest h v = system-back (performed c s .system) rest (performed-clean c s h v)
+unfolding translate granted
+performed-clean c s k v = performed-law Clean c s k (go c v)
+  where
+    go : (c : Call) → bus c < 2 ^ 8 → none-of (checks c s) → Clean (unrefused c s .system)
+    go (call.Start count selected) v n = fresh-clean count selected (well-counted count (n .0)) (n .1 .0)
+    go (call.Reset selected) v n =
+        fresh-clean (s .shared .count) selected (well-counted (s .shared .count) (n .0)) (n .1 .0)
+    go (call.Access code cycle address) v n =
+        translate-kept code cycle address s k (omega (arith, ltb-false 0xFFFFFF address (n .1 .1 .0)))
+    go (call.Register m address operation) v n =
+        operate-kept operation (register-at address) m s k (counted-present m (s .shared .count) (n .0) (n .1 .0)) v
+    go (call.Acknowledge m) v n = k

@@ -3,3 +3,4 @@ pub mod Parts
 pub mod Round
 pub mod Tidy
 pub mod Kept
+pub mod Fit

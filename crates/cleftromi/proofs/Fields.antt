@@ -1,5 +1,7 @@
--- No field of an answer touches another: each is read back from its own bits, as the C header reads it.
--- Assumes nothing.
+-- The fields of an answer.
+--     fields           no field touches another: each is read back from its own bits, as the C header reads it
+--     refusal-back     the refusal, whatever the other values are
+-- That the values of every call fit their fields is `performed-fit` in `block`. Assumes nothing.
 use Prim.Native.Nat.{ℕ, _/_, _%_, _^_, _<_, _≤_}
 use mathlib.Core.Path.{_≡_}
 use mathlib.Core.Bool.{Bool, true, false}
@@ -7,27 +9,34 @@ use native.Mathlib.Omega.{arith}
 use lib.Dec.{lit≤}
 use Rattle.registers.specs.Unit.{flag}
 use Rattle.chip.specs.declared.answer.Values.{Values}
+use Rattle.block.proofs.Fit.{Fit}
 use Rattle.cleftromi.specs.Interface.{number-of}
 
-small : (b : Bool) → flag b ≤ 1
+pub small : (b : Bool) → flag b ≤ 1
 small true = lit≤ tt
 small false = lit≤ tt
 
 pub record Fields (v : Values) (asserted : Bool) (a : ℕ) : Type 0 where
   pub refusal : a % 2 ^ 8 ≡ v .number
-  pub kind : a / 2 ^ 8 % 2 ^ 4 ≡ v .kind % 2 ^ 4
+  pub kind : a / 2 ^ 8 % 2 ^ 4 ≡ v .kind
   pub irq : a / 2 ^ 12 % 2 ≡ flag asserted
   pub win : a / 2 ^ 13 % 2 ≡ flag (v .win)
-  pub unit : a / 2 ^ 16 % 2 ^ 3 ≡ v .unit % 2 ^ 3
-  pub descriptor : a / 2 ^ 19 % 2 ^ 5 ≡ v .descriptor % 2 ^ 5
+  pub unit : a / 2 ^ 16 % 2 ^ 3 ≡ v .unit
+  pub descriptor : a / 2 ^ 19 % 2 ^ 5 ≡ v .descriptor
   pub byte : a / 2 ^ 24 % 2 ^ 8 ≡ v .byte
-  pub address : a / 2 ^ 32 ≡ v .address % 2 ^ 24
+  pub address : a / 2 ^ 32 ≡ v .address
 
-pub fields : (v : Values) (asserted : Bool) → v .number < 2 ^ 8 → v .byte < 2 ^ 8 → Fields v asserted (number-of v asserted)
+pub fields : (v : Values) (asserted : Bool) → Fit v → Fields v asserted (number-of v asserted)
 unfolding number-of
-fields v asserted n b =
+fields v asserted f =
     let i = small asserted in
     let w = small (v .win) in
+    let n = f .number in
+    let k = f .kind in
+    let u = f .unit in
+    let d = f .descriptor in
+    let b = f .byte in
+    let a = f .address in
     record {
       refusal = omega arith;
       kind = omega arith;
@@ -38,3 +47,7 @@ fields v asserted n b =
       byte = omega arith;
       address = omega arith;
     }
+
+pub refusal-back : (v : Values) (asserted : Bool) → v .number < 2 ^ 8 → number-of v asserted % 2 ^ 8 ≡ v .number
+unfolding number-of
+refusal-back v asserted n = omega arith

@@ -1,0 +1,150 @@
+-- Every value that a call answers fits its field of the 64-bit answer, so that nothing is cut off. Assumes nothing.
+use Prim.Native.Nat.{ℕ, _*_, _^_, _<_, _≤_}
+use mathlib.Core.Path.{_≡_, refl}
+use mathlib.Core.Bool.{Bool, true, false, _&&_, cond}
+use native.Mathlib.Omega.{arith}
+use lib.Dec.{lit<, lit≤}
+use Rattle.masks.specs.Fields.{bit}
+use Rattle.masks.proofs.Laws.{gate-fits}
+use Rattle.descriptors.specs.Descriptor.{pending, protected, disable}
+use Rattle.descriptors.specs.declared.descriptor.Descriptor.{Descriptor}
+use Rattle.registers.specs.Unit.{flag, consistent, for-translation, for-load, lsr}
+use Rattle.registers.specs.Shared.{gsr-byte}
+use Rattle.registers.specs.declared.unit.Unit.{Unit}
+use Rattle.registers.specs.declared.shared.Gsr.{Gsr}
+use Rattle.chip.specs.System.{present, unit, descriptor, pointed, with-descriptor}
+use Rattle.chip.specs.Search.{number-of, in-unit, lip}
+use Rattle.chip.specs.Answer.{number, values, refused, granted, reading}
+use Rattle.chip.specs.Access.{writes, match-at, translate-at, translate}
+use Rattle.chip.specs.Transfer.{transfer}
+use Rattle.chip.specs.Load.{collision, load-at, load}
+use Rattle.chip.specs.Translation.{result-at, direct-translation}
+use Rattle.chip.specs.Register.{register-at, read, operate}
+use Rattle.chip.specs.Call.{performed}
+use Rattle.chip.specs.declared.system.System.{System}
+use Rattle.chip.specs.declared.call.Call.{Call}
+use Rattle.chip.specs.declared.call.Call.the-variants as call
+use Rattle.chip.specs.declared.access.Cycle.{Cycle}
+use Rattle.chip.specs.declared.search.Found.{Found}
+use Rattle.chip.specs.declared.search.Found.the-variants.{At, Nowhere}
+use Rattle.chip.specs.declared.register.Register.{Register}
+use Rattle.chip.specs.declared.register.Register.the-variants as registers
+use Rattle.chip.specs.declared.register.Operation.the-variants as operation
+use Rattle.chip.specs.declared.answer.Refusal.{Refusal}
+use Rattle.chip.specs.declared.answer.Answer.the-variants.{Done, Byte}
+use Rattle.chip.specs.declared.answer.Outcome.{Outcome}
+use Rattle.chip.specs.declared.answer.Values.{Values}
+use Rattle.chip.proofs.Checked.{refusal-told, either, none-of, checks, unrefused, outcome-law}
+use Rattle.chip.proofs.Counts.{counted-present}
+use Rattle.chip.proofs.Once.{matching-found}
+use Rattle.block.specs.Layout.{rdp-of}
+use Rattle.block.specs.Clean.{Clean}
+use Rattle.block.proofs.Kept.{status-fits}
+
+pub record Fit (v : Values) : Type 0 where
+  pub number : v .number < 2 ^ 8
+  pub kind : v .kind < 2 ^ 4
+  pub unit : v .unit < 2 ^ 3
+  pub descriptor : v .descriptor < 2 ^ 5
+  pub byte : v .byte < 2 ^ 8
+  pub address : v .address < 2 ^ 24
+
+abbrev Fits : Outcome → Type 0
+Fits o = Fit (values (o .answer))
+
+-- 4.5.3: an access
+translate-fits : (f : Found) (cycle : Cycle) (page number offset : ℕ) (s : System) → offset < 2 ^ 8
+    → ((i : ℕ) → f ≡ At i → i < 32 * present s) → Fits (translate-at f cycle page number offset s)
+unfolding translate-at match-at granted
+translate-fits Nowhere cycle page number offset s o h =
+    record { number = lit< tt; kind = lit< tt; unit = lit< tt; descriptor = lit< tt; byte = lit< tt; address = lit< tt }
+translate-fits (At i) cycle page number offset s o h =
+    let inside = h i refl in
+    let d = descriptor s i in
+    either Fits (writes cycle && protected d)
+    (λ e. record { number = lit< tt; kind = lit< tt; unit = omega arith; descriptor = omega arith; byte = lit< tt; address = lit< tt })
+    (λ e. record {
+      number = lit< tt;
+      kind = lit< tt;
+      unit = omega arith;
+      descriptor = omega arith;
+      byte = lit< tt;
+      address = omega (arith, gate-fits 16 (d .lam) page (d .pba));
+    })
+
+-- 4.6.1: the byte of each register
+small : (b : Bool) → flag b ≤ 1
+small true = lit≤ tt
+small false = lit≤ tt
+
+lsr-fits : (u : Unit) (lip : Bool) → lsr u lip < 2 ^ 8
+lsr-fits u lip =
+    omega (arith, small (u .rw), small (consistent for-translation u), small (consistent for-load u), small lip)
+
+gsr-fits : (g : Gsr) → gsr-byte g < 2 ^ 8
+gsr-fits g = omega (arith, small (g .f), small (g .df), small (g .ie))
+
+idp-fits : (f : Found) → number-of f < 2 ^ 8
+idp-fits (At i) = omega arith
+idp-fits Nowhere = lit< tt
+
+rdp-fits : (x : ℕ) → rdp-of x ≡ x → x < 2 ^ 8
+rdp-fits x e = rw (← e) (either (λ (n : ℕ). n < 2 ^ 8) (bit x 7) (λ b. lit< tt) (λ b. omega arith))
+
+load-fits : (d : Descriptor) (i : ℕ) (s : System) → load-at d i s .byte < 2 ^ 8
+unfolding load-at
+load-fits d i s = go (collision d (with-descriptor s i (disable (descriptor s i)))) _ _
+  where
+    go : (b : Bool) (x y : System) → cond b (reading 0xFF x) (reading 0x00 y) .byte < 2 ^ 8
+    go true x y = lit< tt
+    go false x y = lit< tt
+
+result-fits : (f : Found) (page : ℕ) (s : System) → result-at f page s .byte < 2 ^ 8
+unfolding result-at
+result-fits (At i) page s = lit< tt
+result-fits Nowhere page s = lit< tt
+
+read-fits : (r : Register) (m : ℕ) (s : System) → Clean s → m < present s → read r m s .byte < 2 ^ 8
+unfolding read transfer direct-translation load
+read-fits (registers.Ast i) m s c h = c .shared .entry i
+read-fits (registers.Ac i) m s c h = c .units m h .ac i
+read-fits registers.Dp m s c h = omega (arith, c .units m h .dp)
+read-fits registers.Ivr m s c h = c .shared .ivr
+read-fits registers.Gsr m s c h = gsr-fits (s .shared .gsr)
+read-fits registers.Lsr m s c h = lsr-fits (unit s m) (lip m s)
+read-fits registers.Ssr m s c h = status-fits _ (c .descriptors (pointed m s) (omega arith) .ssr)
+read-fits registers.Idp m s c h = idp-fits (in-unit pending m s)
+read-fits registers.Rdp m s c h = rdp-fits (unit s m .rdp) (c .units m h .rdp)
+read-fits registers.DirectTranslation m s c h = result-fits _ _ _
+read-fits registers.LoadDescriptor m s c h = load-fits _ _ _
+read-fits registers.Null m s c h = lit< tt
+
+byte-fits : (b : ℕ) → b < 2 ^ 8 → Fit (values (Byte b))
+byte-fits b h = record { number = lit< tt; kind = lit< tt; unit = lit< tt; descriptor = lit< tt; byte = h; address = lit< tt }
+
+done-fits : Fit (values Done)
+done-fits = record { number = lit< tt; kind = lit< tt; unit = lit< tt; descriptor = lit< tt; byte = lit< tt; address = lit< tt }
+
+pub performed-fit : (c : Call) (s : System) → Clean s → Fit (values (performed c s .answer))
+unfolding refused granted translate operate
+performed-fit c s k = outcome-law Fits c s refusals (go c)
+  where
+    refusals : (r : Refusal) → Fits (refused r s)
+    refusals r = record {
+      number = refusal-told r .1;
+      kind = lit< tt;
+      unit = lit< tt;
+      descriptor = lit< tt;
+      byte = lit< tt;
+      address = lit< tt;
+    }
+
+    go : (c : Call) → none-of (checks c s) → Fits (unrefused c s)
+    go (call.Start count selected) n = done-fits
+    go (call.Reset selected) n = done-fits
+    go (call.Access code cycle address) n =
+        translate-fits _ cycle _ _ _ s (omega arith) (λ i e. omega (arith, matching-found s _ _ i e .high))
+    go (call.Register m address operation.Read) n =
+        byte-fits _ (read-fits (register-at address) m s k (counted-present m (s .shared .count) (n .0) (n .1 .0)))
+    go (call.Register m address (operation.Write value)) n = done-fits
+    go (call.Acknowledge m) n = byte-fits _ (k .shared .ivr)
