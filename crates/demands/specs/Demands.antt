@@ -1,0 +1,111 @@
+-- The demands, each under the user's words. What is claimed is claimed of anything that keeps the promises of the five functions.
+use Prim.Native.Nat.{ℕ, _*_, _/_, _%_, _^_, _<_}
+use mathlib.Core.Path.{_≡_}
+use mathlib.Core.Logic.{_≢_, _↔_}
+use mathlib.Core.Bool.{Bool, true, false, not, _&&_, cond}
+use mathlib.Core.List.{List, [], _∷_}
+use lib.Dec.{eqb, ltb}
+use Rattle.masks.specs.Fields.{bit}
+use Rattle.descriptors.specs.Status.{E}
+use Rattle.descriptors.specs.Descriptor.{enabled, pending, matches}
+use Rattle.registers.specs.Unit.{byte, ac, segment}
+use Rattle.chip.specs.System.{present, unit, descriptor, pointed}
+use Rattle.chip.specs.Search.{irq}
+use Rattle.chip.specs.Answer.{miscounted, absent, undefined}
+use Rattle.chip.specs.Load.{Collision}
+use Rattle.block.specs.Layout.{short, read, written}
+use Rattle.block.specs.Clean.{Clean}
+use Rattle.cleftromi.specs.Interface.{none}
+use Rattle.demands.specs.Histories.{Start, Reset, Access, Register, Acknowledge, refusal, Reached}
+
+-- what a block holds
+abbrev pub count : (block : List ℕ) → ℕ
+count b = read b .shared .count
+
+abbrev pub places : (block : List ℕ) → ℕ
+places b = 32 * present (read b)
+
+-- the fields of an answer beside its refusal (docs/LAYOUTS.md)
+abbrev pub kind : (answer : ℕ) → ℕ
+kind answer = answer / 2 ^ 8 % 2 ^ 4
+
+abbrev pub byte-read : (answer : ℕ) → ℕ
+byte-read answer = answer / 2 ^ 24 % 2 ^ 8
+
+-- WIN, unit, descriptor, byte and physical address
+abbrev pub values : (answer : ℕ) → ℕ
+values answer = answer / 2 ^ 13
+
+-- ---- Demand 1
+
+-- rows of document 01's table, each a number and when it is given: the first that applies, or zero
+abbrev pub first-of : (rows : List (ℕ × Bool)) → ℕ
+first-of [] = 0
+first-of (row ∷ rows) = cond (row .1) (row .0) (first-of rows)
+
+-- a refusal is given exactly when the table says; it is its number and nothing else, and leaves every byte
+pub record Refused-by (rows : List (ℕ × Bool)) (before : List ℕ) (answer : ℕ) (after : List ℕ) : Type 0 where
+  pub exactly : refusal answer ≡ first-of rows
+  pub alone : refusal answer ≢ 0 → answer ≡ refusal answer
+  pub unchanged : refusal answer ≢ 0 → after ≡ before
+
+-- "A bad unit, register, function code or address gets a numbered refusal, and state and every lent byte are then as before
+-- the call."
+pub record Demand-1 : Type 0 where
+  pub start : {units selected answer : ℕ} {b after : List ℕ} → Start units selected b answer after
+      → Refused-by ((7, short b) ∷ (1, miscounted units) ∷ (2, not (eqb selected none) && absent selected units) ∷ []) b answer after
+  pub reset : {selected answer : ℕ} {b after : List ℕ} → Reset selected b answer after
+      → Refused-by ((7, short b) ∷ (1, miscounted (count b)) ∷ (2, not (eqb selected none) && absent selected (count b)) ∷ []) b answer after
+  pub access : {function-code direction address answer : ℕ} {b after : List ℕ} → Access function-code direction address b answer after
+      → Refused-by ((7, short b) ∷ (1, miscounted (count b)) ∷ (4, ltb 15 function-code) ∷ (5, ltb 0xFFFFFF address) ∷ []) b answer after
+  pub register : {unit address direction value answer : ℕ} {b after : List ℕ} → Register unit address direction value b answer after
+      → Refused-by ((7, short b) ∷ (1, miscounted (count b)) ∷ (2, absent unit (count b)) ∷ (3, ltb 0x3F address) ∷ []) b answer after
+  pub acknowledge : {unit answer : ℕ} {b after : List ℕ} → Acknowledge unit b answer after
+      → Refused-by ((7, short b) ∷ (1, miscounted (count b)) ∷ (2, absent unit (count b)) ∷ (6, not (irq (read b))) ∷ []) b answer after
+
+-- ---- Demand 3
+
+-- a load is a register read of $3F
+abbrev pub Load : (unit value : ℕ) → (before : List ℕ) (answer : ℕ) (after : List ℕ) → Type 0
+Load unit value = Register unit 0x3F 0 value
+
+pub record Demand-3 : Type 0 where
+  -- "From a granted start or reset on, after any calls, as long as nothing else writes the state, no two enabled descriptors
+  -- in any units match the same logical address and address space number."
+  pub one-match : {b : List ℕ} → Reached b → (page number i j : ℕ) → page < 2 ^ 16 → number < 2 ^ 8
+      → i < places b → j < places b
+      → matches (descriptor (read b) i) page number ≡ true → matches (descriptor (read b) j) page number ≡ true → i ≡ j
+  -- "A load that asks to be enabled, in a call with no numbered refusal, is refused exactly when some address and number
+  -- exist that it and another enabled descriptor would both match."
+  pub refused-exactly : {m value answer : ℕ} {b after : List ℕ} → Reached b → Load m value b answer after → refusal answer ≡ 0
+      → bit (ac (unit (read b) m) 7) E ≡ true
+      → (byte-read answer ≡ 0xFF) ↔ Collision (segment (unit (read b) m)) (pointed m (read b)) (read b)
+  -- and otherwise it is enabled
+  pub else-enabled : {m value answer : ℕ} {b after : List ℕ} → Reached b → Load m value b answer after → refusal answer ≡ 0
+      → bit (ac (unit (read b) m) 7) E ≡ true → byte-read answer ≢ 0xFF
+      → (byte-read answer ≡ 0x00) × (enabled (descriptor (read after) (pointed m (read b))) ≡ true)
+  -- "A load into a disabled descriptor, granted or refused, changes no physical address and no write violation that an access
+  -- would have had just before it: it can only give an answer where the access was undefined."
+  pub harmless : {m value loaded : ℕ} {b after : List ℕ} → Reached b → Load m value b loaded after
+      → enabled (descriptor (read b) (pointed m (read b))) ≡ false
+      → {function-code direction address answer later : ℕ} {left finally : List ℕ}
+      → Access function-code direction address b answer left → Access function-code direction address after later finally
+      → kind answer ≢ undefined
+      → (refusal later ≡ refusal answer) × (kind later ≡ kind answer) × (values later ≡ values answer)
+
+-- ---- No stale neighbour
+
+-- "a status register that is right in one unit and stale in its neighbour"
+pub record Sound (b : List ℕ) : Type 0 where
+  -- bytes that are marked in two units are equal
+  pub marked : (i m k : ℕ) → m < present (read b) → k < present (read b)
+      → byte (unit (read b) m) i .global ≡ true → byte (unit (read b) k) i .global ≡ true
+      → ac (unit (read b) m) i ≡ ac (unit (read b) k) i
+  -- IP only with E
+  pub pending : (i : ℕ) → i < places b → pending (descriptor (read b) i) ≡ true → enabled (descriptor (read b) i) ≡ true
+  -- every register within its bits, and no other bit set in the block
+  pub within : Clean (read b)
+  pub form : written b (read b) ≡ b
+
+pub record No-stale-neighbour : Type 0 where
+  pub sound : {b : List ℕ} → Reached b → Sound b
