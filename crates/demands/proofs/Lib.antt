@@ -1,7 +1,7 @@
 pub mod Outcomes
-pub mod Totality
 pub mod Calls
 pub mod Histories
 pub mod Refusals
+pub mod Totality
 pub mod Loads
 pub mod Neighbours

@@ -43,7 +43,7 @@ use Rattle.cleftromi.proofs.Fields.{small, Fields, fields}
 use Rattle.cleftromi.proofs.Blocks.{granted-holds, refused-stays}
 use Rattle.demands.specs.Histories as histories
 use Rattle.demands.specs.Histories.{refusal, Reached}
-use Rattle.demands.specs.Demands.{kind, byte-read, values as values-in, Load, Demand-3}
+use Rattle.demands.specs.Demands.{kind, byte-read, above-irq, Load, Demand-3}
 use Rattle.demands.proofs.Calls.{Made, access-made, register-made}
 use Rattle.demands.proofs.Histories.{Good, number-fits, granted-told, reached-good}
 use Rattle.demands.proofs.Refusals.{long-answer}
@@ -163,7 +163,7 @@ access-answer code cycle address s t same still n =
 
 -- an answer but for IRQ
 abbrev Same-answer : (before later : ℕ) → Type 0
-Same-answer a b = (refusal b ≡ refusal a) × (kind b ≡ kind a) × (values-in b ≡ values-in a)
+Same-answer a b = (refusal b ≡ refusal a) × (kind b ≡ kind a) × (above-irq b ≡ above-irq a)
 
 but-irq : (a : Answer) (x y : Bool) → Same-answer (number-of (values a) x) (number-of (values a) y)
 unfolding number-of

@@ -1,10 +1,21 @@
--- The checker's theorems of the five. Assumes nothing.
+-- The checker's theorems of the five; that their promises can be kept; and a block that is reached. Assumes nothing.
+use Prim.Native.Nat.{ℕ, _<_}
+use mathlib.Core.Path.{_≡_, refl, _∙_}
+use mathlib.Core.List.{List, []}
+use lib.Dec.{lit<}
+use lib.ListN.{length, replicate, length-replicate}
 use Rattle.cleftromi.proofs.cleftromi_start as cleftromi-start
 use Rattle.cleftromi.proofs.cleftromi_reset as cleftromi-reset
 use Rattle.cleftromi.proofs.cleftromi_access as cleftromi-access
 use Rattle.cleftromi.proofs.cleftromi_register as cleftromi-register
 use Rattle.cleftromi.proofs.cleftromi_acknowledge as cleftromi-acknowledge
-use Rattle.demands.specs.Totality.{Totality}
+use Rattle.chip.specs.declared.call.Call.the-variants as call
+use Rattle.chip.specs.declared.reset.Selected.the-variants as selected
+use Rattle.cleftromi.specs.Interface.{answer, after}
+use Rattle.demands.specs.Histories as histories
+use Rattle.demands.specs.Histories.{Start}
+use Rattle.demands.specs.Totality.{Totality, Not-empty}
+use Rattle.demands.proofs.Refusals.{demand-1}
 
 pub totality : Totality
 totality = record {
@@ -13,4 +24,33 @@ totality = record {
   access = λ M. cleftromi-access.Met.met;
   register = λ M. cleftromi-register.Met.met;
   acknowledge = λ M. cleftromi-acknowledge.Met.met;
+}
+
+-- a start of one unit on 4,096 zeros
+zeros : List ℕ
+zeros = replicate 4096 0
+
+as-long : length zeros ≡ 4096
+unfolding zeros
+as-long = length-replicate {A = ℕ} 4096 0
+
+begun : Start 1 0 zeros (answer (call.Start 1 (selected.Unit 0)) zeros) (after (call.Start 1 (selected.Unit 0)) zeros)
+begun = record {
+  lifetime = ([], tt);
+  state = record { ptr = (0, 0); name = 0; now = zeros };
+  within = ((rw as-long (lit< tt), rw as-long (lit< tt)), ((refl, lit< tt), ((refl, lit< tt), tt)));
+  last = (_, (tt, (tt, tt)));
+  kept = (refl, refl);
+  found = refl;
+  left = refl;
+}
+
+pub not-empty : Not-empty
+not-empty = record {
+  start = λ κs a. (_, (_, (tt, (tt, tt))), (refl, refl));
+  reset = λ κs a. (_, (_, (tt, tt)), (refl, refl));
+  access = λ κs a. (_, (_, (tt, (tt, (tt, tt)))), (refl, refl));
+  register = λ κs a. (_, (_, (tt, (tt, (tt, (tt, tt))))), (refl, refl));
+  acknowledge = λ κs a. (_, (_, (tt, tt)), (refl, refl));
+  reached = (_, histories.started begun (demand-1 .start begun .exactly ∙ rw as-long));
 }

@@ -16,7 +16,7 @@ use Rattle.chip.specs.Load.{Collision}
 use Rattle.block.specs.Layout.{short, read, written}
 use Rattle.block.specs.Clean.{Clean}
 use Rattle.cleftromi.specs.Interface.{none}
-use Rattle.demands.specs.Histories.{Start, Reset, Access, Register, Acknowledge, refusal, Reached}
+use Rattle.demands.specs.Histories.{Start, Reset, Access, Register, Acknowledge, Step, refusal, Reached}
 
 -- what a block holds
 abbrev pub count : (block : List ℕ) → ℕ
@@ -32,9 +32,9 @@ kind answer = answer / 2 ^ 8 % 2 ^ 4
 abbrev pub byte-read : (answer : ℕ) → ℕ
 byte-read answer = answer / 2 ^ 24 % 2 ^ 8
 
--- WIN, unit, descriptor, byte and physical address
-abbrev pub values : (answer : ℕ) → ℕ
-values answer = answer / 2 ^ 13
+-- all above IRQ: WIN, unit, descriptor, byte and physical address
+abbrev pub above-irq : (answer : ℕ) → ℕ
+above-irq answer = answer / 2 ^ 13
 
 -- ---- Demand 1
 
@@ -66,7 +66,7 @@ pub record Demand-1 : Type 0 where
 -- ---- Demand 3
 
 -- a load is a register read of $3F
-abbrev pub Load : (unit value : ℕ) → (before : List ℕ) (answer : ℕ) (after : List ℕ) → Type 0
+abbrev pub Load : (unit value : ℕ) → Step
 Load unit value = Register unit 0x3F 0 value
 
 pub record Demand-3 : Type 0 where
@@ -91,7 +91,7 @@ pub record Demand-3 : Type 0 where
       → {function-code direction address answer later : ℕ} {left finally : List ℕ}
       → Access function-code direction address b answer left → Access function-code direction address after later finally
       → kind answer ≢ undefined
-      → (refusal later ≡ refusal answer) × (kind later ≡ kind answer) × (values later ≡ values answer)
+      → (refusal later ≡ refusal answer) × (kind later ≡ kind answer) × (above-irq later ≡ above-irq answer)
 
 -- ---- No stale neighbour
 

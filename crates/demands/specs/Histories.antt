@@ -9,20 +9,24 @@ use Rattle.cleftromi.proofs.cleftromi_access as cleftromi-access
 use Rattle.cleftromi.proofs.cleftromi_register as cleftromi-register
 use Rattle.cleftromi.proofs.cleftromi_acknowledge as cleftromi-acknowledge
 
--- Each of the five, called with these numbers: the bytes before, the answer, the bytes after
-abbrev pub Start : (units selected : ℕ) → (before : List ℕ) (answer : ℕ) (after : List ℕ) → Type 0
+-- a call, by the bytes that it finds, its answer, and the bytes that it leaves
+abbrev pub Step : Type 1
+Step = (before : List ℕ) (answer : ℕ) (after : List ℕ) → Type 0
+
+-- each of the five, called with these numbers
+abbrev pub Start : (units selected : ℕ) → Step
 Start units selected = Called cleftromi-start.Kinds.ps cleftromi-start.Reads.Post (λ κs. (units, (selected, tt)))
 
-abbrev pub Reset : (selected : ℕ) → (before : List ℕ) (answer : ℕ) (after : List ℕ) → Type 0
+abbrev pub Reset : (selected : ℕ) → Step
 Reset selected = Called cleftromi-reset.Kinds.ps cleftromi-reset.Reads.Post (λ κs. (selected, tt))
 
-abbrev pub Access : (function-code direction address : ℕ) → (before : List ℕ) (answer : ℕ) (after : List ℕ) → Type 0
+abbrev pub Access : (function-code direction address : ℕ) → Step
 Access function-code direction address = Called cleftromi-access.Kinds.ps cleftromi-access.Reads.Post (λ κs. (function-code, (direction, (address, tt))))
 
-abbrev pub Register : (unit address direction value : ℕ) → (before : List ℕ) (answer : ℕ) (after : List ℕ) → Type 0
+abbrev pub Register : (unit address direction value : ℕ) → Step
 Register unit address direction value = Called cleftromi-register.Kinds.ps cleftromi-register.Reads.Post (λ κs. (unit, (address, (direction, (value, tt)))))
 
-abbrev pub Acknowledge : (unit : ℕ) → (before : List ℕ) (answer : ℕ) (after : List ℕ) → Type 0
+abbrev pub Acknowledge : (unit : ℕ) → Step
 Acknowledge unit = Called cleftromi-acknowledge.Kinds.ps cleftromi-acknowledge.Reads.Post (λ κs. (unit, tt))
 
 -- a call of any of them, with any numbers

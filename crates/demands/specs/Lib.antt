@@ -1,5 +1,5 @@
 pub mod Promises
 pub mod Outcomes
-pub mod Totality
 pub mod Histories
+pub mod Totality
 pub mod Demands

@@ -18,6 +18,12 @@ At-most-one {n} ps r Promise =
     → Promise κs a x (atExit (endedOf n ps r) κs a v) → Promise κs a y (atExit (endedOf n ps r) κs a w)
     → (x ≡ y) × (v ≡ w)
 
+-- some outcome meets it, whatever the arguments
+abbrev pub At-least-one : {n : ℕ} (ps : List (PK n)) (r : RK n) → Out n ps r → Type 0
+At-least-one {n} ps r Promise =
+    (κs : Lfts n) (a : Dens κs ps)
+    → (x : resT r κs .Denot) × (v : Lasts (endedOf n ps r) κs a) × Promise κs a x (atExit (endedOf n ps r) κs a v)
+
 -- the functions for C: the block that is lent, `&mut [u8]`; the other parameters; the answer, `u64`
 abbrev lent : PK 1
 lent = pMutS (rtF (fInt w8)) 0 tt
