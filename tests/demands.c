@@ -1,0 +1,663 @@
+/* demands SEED CALLS: the sentences of the demands, checked on the library.
+ * Random histories: a start or reset that is granted, then calls of all five
+ * functions.  After each call the block is read here, by docs/LAYOUTS.md:
+ *
+ *   1  no two enabled descriptors in any units match the same page and number;
+ *   2  a load that asks to be enabled is refused exactly when some page and
+ *      number exist that it and another enabled descriptor match;
+ *   3  a load into a disabled descriptor, granted or refused, changes no
+ *      physical address and no violation that an access had just before it;
+ *   4  bytes that are marked in two units are equal, IP stands only beside E,
+ *      and no bit is set that no register has;
+ *   5  a refusal is given exactly when the header's table says, is nothing but
+ *      its number, and leaves every byte.
+ *
+ * Nothing is compared with the model.  Only mix, which plans the calls, sees
+ * the block as a state of the model. */
+#include <inttypes.h>
+#include <stdio.h>
+#include <stdlib.h>
+#include <string.h>
+#include "cleftromi.h"
+#include "layout.h"
+#include "mix.h"
+#include "pair.h"
+
+#define BLOCK 4096u
+#define ROOM 4800u
+#define GUARD 32u
+#define UNITS 6u
+#define HISTORY 2500u /* calls: enough to fill a unit or two */
+
+/* The block stands somewhere in the room: "before" is the room as it was. */
+static uint8_t room[ROOM], before[ROOM];
+static size_t at, bytes;
+
+static mix calls;
+static call now; /* the call that is being checked */
+static uint64_t seed;
+static unsigned long made, histories;
+static bool reached; /* from a granted start or reset; else the block is noise */
+
+/* ------------------------------------------------------------------ */
+/* What has been seen                                                  */
+/* ------------------------------------------------------------------ */
+
+enum {
+    SEEN_REFUSALS = 0, /* 1 to 7 at their own number */
+    SEEN_UNITS = 7,    /* calls with 1 to 6 units at 8 to 13 */
+    SEEN_LOAD = 14,
+    SEEN_CLASH,
+    SEEN_CLASH_ELSEWHERE,
+    SEEN_UNASKED,
+    SEEN_RELOAD,
+    SEEN_STALE,
+    SEEN_HIT_LOAD,
+    SEEN_HIT_CLASH,
+    SEEN_KEPT_MAPPED,
+    SEEN_KEPT_VIOLATION,
+    SEEN_GIVEN,
+    SEEN_MARKED,
+    SEEN_MARKED_ONCE,
+    SEEN_PENDING,
+    SEEN_PAIRS,
+    SEEN_TRIED,
+    SEEN_END
+};
+
+static const char *const seen_names[SEEN_END] = {
+    0, "refusals 1", "refusals 2", "refusals 3", "refusals 4", "refusals 5", "refusals 6", "refusals 7",
+    "calls with 1 unit", "with 2", "with 3", "with 4", "with 5", "with 6",
+    "loads granted", "loads refused", "loads refused by other units alone", "loads that ask for nothing",
+    "loads into enabled descriptors", "loads while another unit's accumulator differs",
+    "granted loads into disabled descriptors with accesses that hit",
+    "refused loads into disabled descriptors with accesses that hit",
+    "accesses that stayed mapped", "accesses that stayed violations", "undefined accesses that got an answer",
+    "bytes marked in two units", "bytes marked in one of two units", "descriptors with IP",
+    "pairs compared", "pairs tried with every page and number",
+};
+
+static unsigned long seen[SEEN_END];
+
+static int report(void)
+{
+    const char *missing = NULL;
+    for (unsigned i = 1; i < SEEN_END; i++) {
+        printf("%s%lu %s", i > 1 ? ", " : "", seen[i], seen_names[i]);
+        if (seen[i] == 0)
+            missing = seen_names[i];
+    }
+    printf("\n%lu calls in %lu histories", made, histories);
+    if (missing == NULL)
+        printf(", every sentence held\n");
+    else
+        printf(", but these were never seen: %s\n", missing);
+    return missing == NULL ? 0 : 1;
+}
+
+static void must(bool good, const char *sentence)
+{
+    if (good)
+        return;
+    printf("seed %" PRIu64 ", call %lu, %zu bytes lent at %zu: %s: ", seed, made, bytes, at, sentence);
+    call_print(now);
+    exit(1);
+}
+
+/* ------------------------------------------------------------------ */
+/* Reading a block (docs/LAYOUTS.md)                                   */
+/* ------------------------------------------------------------------ */
+
+#define AC7 7u
+#define MARKS 9u
+#define DP 11u
+#define RDP 13u
+#define SSR 7u
+
+static const uint8_t *unit_at(const uint8_t *block, unsigned m)
+{
+    return block + 32 + 16 * m;
+}
+
+/* "place" is 32 m + n for descriptor n of unit m. */
+static const uint8_t *descriptor_at(const uint8_t *block, unsigned place)
+{
+    return block + 128 + 9 * place;
+}
+
+static unsigned places(const uint8_t *block)
+{
+    return 32u * block[0];
+}
+
+static bool enabled(const uint8_t *block, unsigned place)
+{
+    return (descriptor_at(block, place)[SSR] & CLEFTROMI_SSR_E) != 0;
+}
+
+static bool marked(const uint8_t *unit, unsigned n)
+{
+    return ((unit[MARKS] | unit[MARKS + 1] << 8) >> n & 1) != 0;
+}
+
+/* IP reads as zero where E is zero: noise may have it there. */
+static bool irq(const uint8_t *block)
+{
+    const unsigned both = CLEFTROMI_SSR_E | CLEFTROMI_SSR_IP;
+    if ((block[1] & CLEFTROMI_GSR_IE) == 0)
+        return false;
+    for (unsigned i = 0; i < places(block); i++)
+        if ((descriptor_at(block, i)[SSR] & both) == both)
+            return true;
+    return false;
+}
+
+/* What a descriptor says of pages and of numbers. */
+typedef struct {
+    unsigned page, page_mask, number, number_mask;
+} segment;
+
+static segment segment_at(const uint8_t *block, unsigned place)
+{
+    const uint8_t *d = descriptor_at(block, place);
+    segment s = {d[0] | (unsigned)d[1] << 8, d[2] | (unsigned)d[3] << 8, d[6], d[8]};
+    return s;
+}
+
+/* The accumulator has the high byte of a word first. */
+static segment segment_wanted(const uint8_t *unit)
+{
+    segment s = {(unsigned)unit[0] << 8 | unit[1], (unsigned)unit[2] << 8 | unit[3], unit[6], unit[8]};
+    return s;
+}
+
+/* ------------------------------------------------------------------ */
+/* Two segments                                                        */
+/* ------------------------------------------------------------------ */
+
+static bool agrees(unsigned tried, unsigned value, unsigned mask)
+{
+    return ((tried ^ value) & mask) == 0;
+}
+
+static bool matches(segment s, unsigned page, unsigned number)
+{
+    return agrees(page, s.page, s.page_mask) && agrees(number, s.number, s.number_mask);
+}
+
+/* Does some value agree with both?  Bit by bit: only where both masks have a
+ * one can the two ask for different things. */
+static bool meet(unsigned value1, unsigned mask1, unsigned value2, unsigned mask2, unsigned width)
+{
+    for (unsigned bit = 0; bit < width; bit++)
+        if ((mask1 >> bit & 1) && (mask2 >> bit & 1) && (value1 >> bit & 1) != (value2 >> bit & 1))
+            return false;
+    return true;
+}
+
+/* The same by trying every value. */
+static bool meet_somewhere(unsigned value1, unsigned mask1, unsigned value2, unsigned mask2, unsigned values)
+{
+    for (unsigned v = 0; v < values; v++)
+        if (agrees(v, value1, mask1) && agrees(v, value2, mask2))
+            return true;
+    return false;
+}
+
+static void confirm_apart(segment a, segment b)
+{
+    bool page = meet_somewhere(a.page, a.page_mask, b.page, b.page_mask, 65536);
+    bool number = meet_somewhere(a.number, a.number_mask, b.number, b.number_mask, 256);
+    must(!(page && number), "this test is wrong: it took two segments to be apart");
+    seen[SEEN_TRIED]++;
+}
+
+/* The page and the number that both match. */
+static void confirm_clash(segment a, segment b)
+{
+    unsigned page = (a.page & a.page_mask) | (b.page & b.page_mask);
+    unsigned number = (a.number & a.number_mask) | (b.number & b.number_mask);
+    must(matches(a, page, number) && matches(b, page, number), "this test is wrong: it took two segments to clash");
+}
+
+static bool clash(segment a, segment b)
+{
+    bool both = meet(a.page, a.page_mask, b.page, b.page_mask, 16) &&
+                meet(a.number, a.number_mask, b.number, b.number_mask, 8);
+    seen[SEEN_PAIRS]++;
+    if (both)
+        confirm_clash(a, b);
+    else if (seen[SEEN_PAIRS] % 1999 == 0) /* too slow for all of them */
+        confirm_apart(a, b);
+    return both;
+}
+
+/* An enabled descriptor from "from" up to "end" that clashes with a segment,
+ * the one at "except" left out; "end" if there is none. */
+static unsigned clashing(const uint8_t *block, segment s, unsigned except, unsigned from, unsigned end)
+{
+    for (unsigned i = from; i < end; i++)
+        if (i != except && enabled(block, i) && clash(segment_at(block, i), s))
+            return i;
+    return end;
+}
+
+/* ------------------------------------------------------------------ */
+/* Sentence 1                                                          */
+/* ------------------------------------------------------------------ */
+
+/* Two that stood before, and are as they were, need no second look: "old" is
+ * the block before the call, or NULL to look at all. */
+static void one_match(const uint8_t *old, const uint8_t *block)
+{
+    unsigned end = places(block);
+    for (unsigned i = 0; i < end; i++) {
+        if (!enabled(block, i))
+            continue;
+        if (old != NULL && memcmp(descriptor_at(old, i), descriptor_at(block, i), 9) == 0)
+            continue;
+        must(clashing(block, segment_at(block, i), i, 0, end) == end,
+             "two enabled descriptors match the same page and number");
+    }
+}
+
+/* ------------------------------------------------------------------ */
+/* Sentence 3                                                          */
+/* ------------------------------------------------------------------ */
+
+static unsigned number_under(segment s)
+{
+    return (s.number & s.number_mask) | (mix_below(&calls, 256) & ~s.number_mask);
+}
+
+/* Some enabled descriptor; without one everything. */
+static segment some_segment(const uint8_t *block)
+{
+    segment everything = {0, 0, 0, 0};
+    unsigned all = places(block), from = mix_below(&calls, all);
+    for (unsigned i = 0; i < all; i++)
+        if (enabled(block, (from + i) % all))
+            return segment_at(block, (from + i) % all);
+    return everything;
+}
+
+/* A page of the segment, and a function code whose entry of the table is one
+ * of its numbers, if there is such a code. */
+static call aimed_access(const uint8_t *block, segment s)
+{
+    unsigned page = (s.page & s.page_mask) | (mix_below(&calls, 65536) & ~s.page_mask);
+    unsigned code = mix_below(&calls, 16);
+    for (unsigned i = 0; i < 16 && !agrees(block[16 + code], s.number, s.number_mask); i++)
+        code = (code + 1) % 16;
+    call c = {CALL_ACCESS, {code, mix_below(&calls, 2), (uint64_t)page << 8 | mix_below(&calls, 256)}, 0};
+    return c;
+}
+
+static uint64_t answer_on_copy(call c, const uint8_t *block)
+{
+    static uint8_t copy[BLOCK];
+    memcpy(copy, block, BLOCK);
+    return call_library(c, copy, BLOCK);
+}
+
+/* IRQ alone may differ: a load may bring IP. */
+static bool same_but_irq(call c, uint64_t was, uint64_t is)
+{
+    if (((was ^ is) & ~((uint64_t)1 << 12)) == 0)
+        return true;
+    printf("0x%016" PRIX64 " before the load below, 0x%016" PRIX64 " after it, of ", was, is);
+    call_print(c);
+    return false;
+}
+
+/* One access before the load into "place" and after it.  Returns whether it
+ * hit something before. */
+static bool access_kept(call c, const uint8_t *old, const uint8_t *block, unsigned place)
+{
+    uint64_t was = answer_on_copy(c, old), is = answer_on_copy(c, block);
+    unsigned kind = cleftromi_kind(was);
+    seen[SEEN_KEPT_MAPPED] += kind == CLEFTROMI_MAPPED;
+    seen[SEEN_KEPT_VIOLATION] += kind == CLEFTROMI_VIOLATION;
+    if (kind == CLEFTROMI_MAPPED || kind == CLEFTROMI_VIOLATION) {
+        must(same_but_irq(c, was, is), "a load into a disabled descriptor changes what an access had");
+        return true;
+    }
+    must(kind == CLEFTROMI_UNDEFINED, "an access in range has no answer of its own");
+    if (cleftromi_kind(is) != CLEFTROMI_UNDEFINED) {
+        must(32 * cleftromi_unit(is) + cleftromi_descriptor(is) == place,
+             "a load gives an access an answer that is not by the descriptor loaded");
+        seen[SEEN_GIVEN]++;
+    }
+    return false;
+}
+
+/* Accesses to what is enabled, to what was asked for, and to anything. */
+static bool load_harmless(const uint8_t *old, const uint8_t *block, segment wanted, unsigned place)
+{
+    segment everything = {0, 0, 0, 0};
+    bool hit = false;
+    for (unsigned i = 0; i < 6; i++) {
+        segment s = i < 4 ? some_segment(old) : i == 4 ? wanted : everything;
+        if (access_kept(aimed_access(old, s), old, block, place))
+            hit = true;
+    }
+    return hit;
+}
+
+/* ------------------------------------------------------------------ */
+/* Sentence 2                                                          */
+/* ------------------------------------------------------------------ */
+
+/* Bytes of the accumulator that a load compares: another unit's may be old. */
+static bool stale_elsewhere(const uint8_t *block, unsigned m)
+{
+    static const uint8_t compared[] = {0, 1, 2, 3, 6, 8};
+    for (unsigned k = 0; k < block[0]; k++)
+        for (unsigned i = 0; i < sizeof compared; i++)
+            if (unit_at(block, k)[compared[i]] != unit_at(block, m)[compared[i]])
+                return true;
+    return false;
+}
+
+/* The nine bytes of the accumulator, in the descriptor's own order. */
+static bool loaded(const uint8_t *unit, const uint8_t *d)
+{
+    static const uint8_t order[] = {1, 0, 3, 2, 5, 4, 6, AC7, 8};
+    for (unsigned i = 0; i < 9; i++)
+        if (i != SSR && d[i] != unit[order[i]])
+            return false;
+    return d[SSR] == (unit[AC7] & 0x9F);
+}
+
+static void note_load(const uint8_t *old, unsigned m, segment wanted, unsigned place, bool asks, bool clashes)
+{
+    unsigned mine = 32 * m;
+    seen[!asks ? SEEN_UNASKED : clashes ? SEEN_CLASH : SEEN_LOAD]++;
+    seen[SEEN_CLASH_ELSEWHERE] += clashes && clashing(old, wanted, place, mine, mine + 32) == mine + 32;
+    seen[SEEN_RELOAD] += enabled(old, place);
+    seen[SEEN_STALE] += asks && stale_elsewhere(old, m);
+}
+
+static void load_exactly(const uint8_t *old, const uint8_t *block, uint64_t answer)
+{
+    unsigned m = (unsigned)now.number[0], place = 32 * m + unit_at(old, m)[DP];
+    segment wanted = segment_wanted(unit_at(old, m));
+    bool asks = (unit_at(old, m)[AC7] & CLEFTROMI_SSR_E) != 0;
+    bool clashes = asks && clashing(old, wanted, place, 0, places(old)) != places(old);
+
+    must(cleftromi_kind(answer) == CLEFTROMI_BYTE, "a load is no read of a byte");
+    must(cleftromi_byte(answer) == (clashes ? 0xFF : 0x00),
+         clashes ? "a load that clashes is granted" : "a load that does not clash is refused");
+    must(enabled(block, place) == (asks && !clashes),
+         clashes ? "a refused load leaves the descriptor enabled" : "a granted load does not enable as it asks");
+    if (asks && !clashes)
+        must(loaded(unit_at(old, m), descriptor_at(block, place)), "a granted load loads other bytes");
+
+    note_load(old, m, wanted, place, asks, clashes);
+    if (!enabled(old, place) && load_harmless(old, block, wanted, place) && asks)
+        seen[clashes ? SEEN_HIT_CLASH : SEEN_HIT_LOAD]++;
+}
+
+/* ------------------------------------------------------------------ */
+/* Sentence 4                                                          */
+/* ------------------------------------------------------------------ */
+
+static void marks_alike(const uint8_t *block)
+{
+    for (unsigned k = 1; k < block[0]; k++)
+        for (unsigned m = 0; m < k; m++)
+            for (unsigned n = 0; n < 9; n++) {
+                bool one = marked(unit_at(block, m), n), other = marked(unit_at(block, k), n);
+                seen[SEEN_MARKED] += one && other;
+                seen[SEEN_MARKED_ONCE] += one != other;
+                if (one && other)
+                    must(unit_at(block, m)[n] == unit_at(block, k)[n], "a byte marked in two units differs");
+            }
+}
+
+/* The bits that a register has, for each byte of a block with this count. */
+static void register_bits(uint8_t *bits, unsigned count)
+{
+    static const uint8_t unit[16] = {0xFF, 0xFF, 0xFF, 0xFF, 0xFF, 0xFF, 0xFF, 0xFF,
+                                     0xFF, 0xFF, 0x01, 0x1F, 0xF8, 0x9F, 0,    0};
+    static const uint8_t descriptor[9] = {0xFF, 0xFF, 0xFF, 0xFF, 0xFF, 0xFF, 0xFF, 0x9F, 0xFF};
+    memset(bits, 0, BLOCK);
+    bits[0] = 0x07;
+    bits[1] = 0xC1;
+    bits[2] = 0xFF;
+    memset(bits + 16, 0xFF, 16);
+    for (unsigned m = 0; m < count; m++)
+        memcpy(bits + 32 + 16 * m, unit, 16);
+    for (unsigned i = 0; i < 32 * count; i++)
+        memcpy(bits + 128 + 9 * i, descriptor, 9);
+}
+
+static void no_stray_bit(const uint8_t *block)
+{
+    static uint8_t bits[UNITS + 1][BLOCK];
+    unsigned count = block[0];
+    must(count >= 1 && count <= UNITS, "a granted call leaves a count that is none");
+    if (bits[count][0] == 0)
+        register_bits(bits[count], count);
+    unsigned stray = 0;
+    for (unsigned i = 0; i < BLOCK; i++)
+        stray |= block[i] & ~(unsigned)bits[count][i];
+    must(stray == 0, "a bit is set that no register has");
+    for (unsigned m = 0; m < count; m++) {
+        uint8_t rdp = unit_at(block, m)[RDP];
+        must(rdp < 0x80 || rdp == CLEFTROMI_NO_DESCRIPTOR, "RDP has a number beside NVR");
+    }
+    for (unsigned i = 0; i < places(block); i++) {
+        uint8_t status = descriptor_at(block, i)[SSR] & (CLEFTROMI_SSR_IP | CLEFTROMI_SSR_E);
+        must(status != CLEFTROMI_SSR_IP, "IP stands without E");
+        seen[SEEN_PENDING] += status == (CLEFTROMI_SSR_IP | CLEFTROMI_SSR_E);
+    }
+}
+
+/* ------------------------------------------------------------------ */
+/* Sentence 5                                                          */
+/* ------------------------------------------------------------------ */
+
+/* Document 01's table, row by row. */
+static bool applies(unsigned row, call c, const uint8_t *block)
+{
+    bool names_unit = c.name != CALL_ACCESS, may_be_none = c.name == CALL_START || c.name == CALL_RESET;
+    uint64_t count = c.name == CALL_START ? c.number[0] : block[0];
+    uint64_t unit = c.name == CALL_START ? c.number[1] : c.number[0];
+    switch (row) {
+    case CLEFTROMI_REFUSED_BLOCK:
+        return bytes < BLOCK;
+    case CLEFTROMI_REFUSED_COUNT:
+        return count == 0 || count > UNITS;
+    case CLEFTROMI_REFUSED_UNIT:
+        return names_unit && unit >= count && !(may_be_none && unit == CLEFTROMI_NONE);
+    case CLEFTROMI_REFUSED_REGISTER:
+        return c.name == CALL_REGISTER && c.number[1] > 0x3F;
+    case CLEFTROMI_REFUSED_FUNCTION_CODE:
+        return c.name == CALL_ACCESS && c.number[0] > 15;
+    case CLEFTROMI_REFUSED_ADDRESS:
+        return c.name == CALL_ACCESS && c.number[2] > 0xFFFFFF;
+    default:
+        return c.name == CALL_ACKNOWLEDGE && !irq(block);
+    }
+}
+
+static unsigned refusal_due(call c, const uint8_t *block)
+{
+    static const uint8_t order[] = {7, 1, 2, 3, 4, 5, 6};
+    for (unsigned i = 0; i < sizeof order; i++)
+        if (applies(order[i], c, block))
+            return order[i];
+    return 0;
+}
+
+static void refused_exactly(unsigned due, uint64_t answer)
+{
+    must(cleftromi_refusal(answer) == due, due == 0 ? "refused for no reason" : "not refused with the number due");
+    if (due == 0) {
+        must(cleftromi_kind(answer) != 0, "granted, and of no kind");
+        must(memcmp(before, room, at) == 0, "a byte before the block has changed");
+        must(memcmp(before + at + BLOCK, room + at + BLOCK, ROOM - at - BLOCK) == 0, "a byte past 4,096 has changed");
+        return;
+    }
+    must(answer == due, "a refusal has another field");
+    must(memcmp(before, room, ROOM) == 0, "a refused call has changed a byte");
+    seen[SEEN_REFUSALS + due]++;
+}
+
+/* ------------------------------------------------------------------ */
+/* Histories                                                           */
+/* ------------------------------------------------------------------ */
+
+static bool is_load(call c)
+{
+    return c.name == CALL_REGISTER && c.number[1] == CLEFTROMI_LOAD && c.number[2] == CLEFTROMI_READ;
+}
+
+/* Makes a call and checks all that is said of it.  "fresh" if the block may
+ * have been anything before. */
+static void make(call c, bool fresh)
+{
+    uint8_t *block = room + at, *old = before + at;
+    now = c;
+    made++;
+    memcpy(before, room, ROOM);
+    unsigned due = refusal_due(c, old);
+    uint64_t answer = call_library(c, block, bytes);
+    refused_exactly(due, answer);
+    if (due != 0)
+        return;
+    no_stray_bit(block);
+    if (!reached)
+        return;
+    if (is_load(c)) /* first, for else a load that must not be granted is seen by what it leaves */
+        load_exactly(old, block, answer);
+    one_match(fresh || made % 64 == 0 ? NULL : old, block);
+    marks_alike(block);
+    seen[SEEN_UNITS + block[0]]++;
+}
+
+static const model *planned(void)
+{
+    static model m;
+    layout_decode(room + at, &m);
+    return &m;
+}
+
+/* Sometimes longer than it need be, seldom too short, and then often by one. */
+static void vary_length(void)
+{
+    bytes = BLOCK;
+    if (mix_below(&calls, 4) == 0)
+        bytes += mix_below(&calls, (unsigned)(ROOM - at - BLOCK));
+    if (mix_below(&calls, 200) == 0)
+        bytes = mix_below(&calls, 2) ? BLOCK - 1 : mix_below(&calls, BLOCK);
+}
+
+/* Puts the numbers of some segments into the table, by calls: sentence 3 has
+ * accesses that hit something before the load only if the table lets them. */
+static void aim_table(const uint8_t *block, segment wanted)
+{
+    for (unsigned n = mix_below(&calls, 4); n > 0; n--) {
+        uint8_t number = (uint8_t)number_under(n == 3 ? wanted : some_segment(block));
+        call c = {CALL_REGISTER, {0, CLEFTROMI_AST(mix_below(&calls, 16)), CLEFTROMI_WRITE}, number};
+        make(c, false);
+    }
+}
+
+static void step(call c)
+{
+    const uint8_t *block = room + at;
+    vary_length();
+    if (is_load(c) && refusal_due(c, block) == 0)
+        aim_table(block, segment_wanted(unit_at(block, (unsigned)c.number[0])));
+    make(c, false);
+}
+
+/* Loads what some unit's accumulator has, but for one bit: just apart from what
+ * stands, or just not.  A load of mix fills the accumulator first; this one has
+ * three calls, so that there are many loads. */
+static void load_neighbour(void)
+{
+    const uint8_t *block = room + at;
+    unsigned m = mix_below(&calls, block[0]);
+    unsigned n = (unit_at(block, m)[AC7] & CLEFTROMI_SSR_E) ? mix_below(&calls, 9) : AC7;
+    uint8_t value = (uint8_t)(unit_at(block, m)[n] ^ 1u << mix_below(&calls, 8));
+    if (n == AC7)
+        value |= CLEFTROMI_SSR_E;
+    call change = {CALL_REGISTER, {m, CLEFTROMI_AC0 + n, CLEFTROMI_WRITE}, value};
+    call point = {CALL_REGISTER, {m, CLEFTROMI_DP, CLEFTROMI_WRITE}, (uint8_t)mix_below(&calls, 256)};
+    call load = {CALL_REGISTER, {m, CLEFTROMI_LOAD, CLEFTROMI_READ}, 0};
+    step(change);
+    step(point);
+    step(load);
+}
+
+/* mix needs the state only where no call is left of its last plan. */
+static void next(void)
+{
+    if (calls.waiting > 0)
+        step(mix_next(&calls, NULL));
+    else if (mix_below(&calls, 3) == 0)
+        load_neighbour();
+    else
+        step(mix_next(&calls, planned()));
+}
+
+/* Half of these with a number out of range, or at least another one. */
+static call on_noise(void)
+{
+    call c = mix_single(&calls, planned());
+    if (mix_below(&calls, 2))
+        c.number[mix_below(&calls, 3)] = (uint64_t)1 << mix_below(&calls, 64);
+    return c;
+}
+
+/* Whatever stands in the block: what is said of refusals, and of the bits that
+ * a granted call leaves, holds there too. */
+static void noise(void)
+{
+    reached = false;
+    at = GUARD + mix_below(&calls, 64);
+    for (size_t i = 0; i < ROOM; i++)
+        room[i] = (uint8_t)mix_random(&calls);
+    if (mix_below(&calls, 2))
+        room[at] = (uint8_t)(1 + mix_below(&calls, UNITS));
+    for (unsigned n = mix_below(&calls, 4); n > 0; n--) {
+        vary_length();
+        make(on_noise(), false);
+    }
+}
+
+static void history(void)
+{
+    unsigned count = 1 + (unsigned)(histories % UNITS);
+    uint64_t selected = mix_below(&calls, 3) ? mix_below(&calls, count) : CLEFTROMI_NONE;
+    call start = {CALL_START, {count, selected, 0}, 0}, reset = {CALL_RESET, {selected, 0, 0}, 0};
+    bool by_reset = mix_below(&calls, 2) != 0;
+    for (unsigned n = 0; n < 10; n++)
+        noise();
+    if (by_reset)
+        room[at] = (uint8_t)count;
+    bytes = BLOCK;
+    reached = true;
+    make(by_reset ? reset : start, true);
+    histories++;
+}
+
+int main(int argc, char **argv)
+{
+    if (argc != 3) {
+        fprintf(stderr, "demands SEED CALLS\n");
+        return 2;
+    }
+    seed = strtoull(argv[1], NULL, 0);
+    unsigned long wanted = strtoul(argv[2], NULL, 0), until = 0;
+    mix_begin(&calls, seed);
+    while (made < wanted) {
+        history();
+        for (until = made + HISTORY; made < until;)
+            next();
+    }
+    return report();
+}
