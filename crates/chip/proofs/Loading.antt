@@ -122,25 +122,12 @@ module _ (d : Descriptor) (i : ℕ) (s : System) (there : i < length (s .descrip
       forth true x y e = refl
       forth false x y e = absurd (false≢true e)
 
-granted-law : (d : Descriptor) (i : ℕ) (s : System) → i < length (s .descriptors) → load-at d i s .byte ≢ 0xFF
-    → (load-at d i s .byte ≡ 0x00) × (descriptor (load-at d i s .system) i ≡ d)
+-- what it leaves: nothing shared is changed and no other descriptor; granted, d stands at place i
+leaves-law : (d : Descriptor) (i : ℕ) (s : System) → i < length (s .descriptors) → let r = load-at d i s in
+    (r .system .shared ≡ s .shared) × ((k : ℕ) → k ≢ i → descriptor (r .system) k ≡ descriptor s k)
+    × (r .byte ≢ 0xFF → (r .byte ≡ 0x00) × (descriptor (r .system) i ≡ d))
 unfolding load-at with-units with-descriptor
-granted-law d i s there = go (collision d t)
-  where
-    t : System
-    t = with-descriptor s i (disable (descriptor s i))
-
-    go : (b : Bool)
-        → let r = cond b (reading 0xFF (in-each (λ k. blame (in-unit (collides d) k t)) t)) (reading 0x00 (in-all (report NO none) (with-descriptor t i d))) in
-        r .byte ≢ 0xFF → (r .byte ≡ 0x00) × (descriptor (r .system) i ≡ d)
-    go true n = absurd (n refl)
-    go false n = (refl, descriptor-there t i d (rw length-set there))
-
--- no other descriptor, and nothing shared
-elsewhere : (d : Descriptor) (i : ℕ) (s : System) → (load-at d i s .system .shared ≡ s .shared)
-    × ((k : ℕ) → k ≢ i → descriptor (load-at d i s .system) k ≡ descriptor s k)
-unfolding load-at with-units with-descriptor
-elsewhere d i s = go (collision d t)
+leaves-law d i s there = go (collision d t)
   where
     t : System
     t = with-descriptor s i (disable (descriptor s i))
@@ -148,8 +135,13 @@ elsewhere d i s = go (collision d t)
     go : (b : Bool)
         → let r = cond b (reading 0xFF (in-each (λ k. blame (in-unit (collides d) k t)) t)) (reading 0x00 (in-all (report NO none) (with-descriptor t i d))) in
         (r .system .shared ≡ s .shared) × ((k : ℕ) → k ≢ i → descriptor (r .system) k ≡ descriptor s k)
-    go true = (refl, λ k n. descriptor-elsewhere s i k _ n)
-    go false = (refl, λ k n. descriptor-elsewhere t i k d n ∙ descriptor-elsewhere s i k _ n)
+        × (r .byte ≢ 0xFF → (r .byte ≡ 0x00) × (descriptor (r .system) i ≡ d))
+    go true = (refl, λ k n. descriptor-elsewhere s i k _ n, λ n. absurd (n refl))
+    go false = (
+      refl,
+      λ k n. descriptor-elsewhere t i k d n ∙ descriptor-elsewhere s i k _ n,
+      λ n. (refl, descriptor-there t i d (rw length-set there)),
+    )
 
 -- and at unit m
 asked : (m : ℕ) (s : System) → bit (ac (unit s m) 7) E ≡ true → enabled (segment (unit s m)) ≡ true
@@ -169,11 +161,11 @@ module _ (m : ℕ) (s : System) (h : m < present s) (us : length (s .units) ≡ 
       rw (load-is m s h us) (rw (places .0, places .1) at law)
 
   pub load-granted : load m s .byte ≢ 0xFF → (load m s .byte ≡ 0x00) × (descriptor (load m s .system) (pointed m s) ≡ segment (unit s m))
-  load-granted = rw (load-is m s h us) (granted-law (segment (unit s m)) (pointed m s) (prepare for-load m s) there)
+  load-granted = rw (load-is m s h us) (leaves-law (segment (unit s m)) (pointed m s) (prepare for-load m s) there .2)
 
   load-elsewhere : (load m s .system .shared ≡ s .shared) × ((k : ℕ) → k ≢ pointed m s → descriptor (load m s .system) k ≡ descriptor s k)
   load-elsewhere =
-      let law = elsewhere (segment (unit s m)) (pointed m s) (prepare for-load m s) in
+      let law = leaves-law (segment (unit s m)) (pointed m s) (prepare for-load m s) there in
       rw (load-is m s h us) (law .0 ∙ places .1, λ k n. law .1 k n ∙ ap (λ (l : List Descriptor). getD l k zeros) (places .0))
 
   pub load-shared : load m s .system .shared ≡ s .shared
