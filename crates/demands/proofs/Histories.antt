@@ -98,6 +98,7 @@ granted-told c b r p e = go (short b) refl (rw p at e)
     go true q e = absurd (omega arith)
     go false q e = record { long = q; granted = sym (refusal-back (values (o .answer)) (o .irq) (number-fits (o .answer))) ∙ e }
 
+-- the first call of a history, and one after it
 begun : (c : Call) {b e : List ℕ} {r : ℕ} → Made c b r e → refusal r ≡ 0
     → (values (performed c (read b) .answer) .number ≡ 0 → Kept (performed c (read b) .system)) → Good e
 begun c {b} m granted k =
