@@ -73,7 +73,7 @@ translate-fits (At i) cycle page number offset s o h =
     })
 
 -- 4.6.1: the byte of each register
-small : (b : Bool) → flag b ≤ 1
+pub small : (b : Bool) → flag b ≤ 1
 small true = lit≤ tt
 small false = lit≤ tt
 

@@ -2,19 +2,14 @@
 --     fields           no field touches another: each is read back from its own bits, as the C header reads it
 --     refusal-back     the refusal, whatever the other values are
 -- That the values of every call fit their fields is `performed-fit` in `block`. Assumes nothing.
-use Prim.Native.Nat.{ℕ, _/_, _%_, _^_, _<_, _≤_}
+use Prim.Native.Nat.{ℕ, _/_, _%_, _^_, _<_}
 use mathlib.Core.Path.{_≡_}
-use mathlib.Core.Bool.{Bool, true, false}
+use mathlib.Core.Bool.{Bool}
 use native.Mathlib.Omega.{arith}
-use lib.Dec.{lit≤}
 use Rattle.registers.specs.Unit.{flag}
 use Rattle.chip.specs.declared.answer.Values.{Values}
-use Rattle.block.proofs.Fit.{Fit}
+use Rattle.block.proofs.Fit.{Fit, small}
 use Rattle.cleftromi.specs.Interface.{number-of}
-
-pub small : (b : Bool) → flag b ≤ 1
-small true = lit≤ tt
-small false = lit≤ tt
 
 pub record Fields (v : Values) (asserted : Bool) (a : ℕ) : Type 0 where
   pub refusal : a % 2 ^ 8 ≡ v .number

@@ -37,12 +37,12 @@ use Rattle.demands.proofs.Calls.{Made, start-made, reset-made, any-made
 
 -- ---- a system
 
-pub record Kept (s : System) : Type 0 where
+pub record Invariants (s : System) : Type 0 where
   pub clean : Clean s
   pub apart : Apart s
   pub agreed : Agreed s
 
-performed-kept : (c : Call) (s : System) → Kept s → bus c < 2 ^ 8 → Kept (performed c s .system)
+performed-kept : (c : Call) (s : System) → Invariants s → bus c < 2 ^ 8 → Invariants (performed c s .system)
 performed-kept c s k v = record {
   clean = performed-clean c s (k .clean) v;
   apart = performed-apart c s (k .clean .places .1) (k .apart);
@@ -51,10 +51,10 @@ performed-kept c s k v = record {
 
 -- whatever the block held, a granted start leaves a fresh system
 started-kept : (count : ℕ) (selected : Selected) (s : System) → values (performed (call.Start count selected) s .answer) .number ≡ 0
-    → Kept (performed (call.Start count selected) s .system)
+    → Invariants (performed (call.Start count selected) s .system)
 unfolding refused granted
 started-kept count selected s =
-    outcome-law (λ (o : Outcome). values (o .answer) .number ≡ 0 → Kept (o .system)) (call.Start count selected) s
+    outcome-law (λ (o : Outcome). values (o .answer) .number ≡ 0 → Invariants (o .system)) (call.Start count selected) s
     (λ r e. absurd (refusal-told r .0 e))
     (λ n e.
     let few = well-counted count (n .0) in
@@ -68,11 +68,11 @@ started-kept count selected s =
 
 pub record Good (b : List ℕ) : Type 0 where
   pub long : short b ≡ false
-  pub kept : Kept (read b)
+  pub invariants : Invariants (read b)
   pub form : written b (read b) ≡ b
 
-holds-good : (t : System) (b : List ℕ) → Kept t → Holds t b → Good b
-holds-good t b k h = record { long = h .long; kept = rw (h .reads) k; form = rw (h .reads) (h .form) }
+holds-good : (t : System) (b : List ℕ) → Invariants t → Holds t b → Good b
+holds-good t b k h = record { long = h .long; invariants = rw (h .reads) k; form = rw (h .reads) (h .form) }
 
 -- the answer tells whether a call was refused, and a block that is too short is
 pub record Told (c : Call) (b : List ℕ) : Type 0 where
@@ -100,7 +100,7 @@ granted-told c b r p e = go (short b) refl (rw p at e)
 
 -- the first call of a history, and one after it
 begun : (c : Call) {b e : List ℕ} {r : ℕ} → Made c b r e → refusal r ≡ 0
-    → (values (performed c (read b) .answer) .number ≡ 0 → Kept (performed c (read b) .system)) → Good e
+    → (values (performed c (read b) .answer) .number ≡ 0 → Invariants (performed c (read b) .system)) → Good e
 begun c {b} m granted k =
     let t = granted-told c b _ (m .answered) granted in
     let s = k (t .granted) in
@@ -111,7 +111,7 @@ followed c {b} g m = rw (m .left) (go (eqb (values (performed c (read b) .answer
   where
     go : (t : Bool) → eqb (values (performed c (read b) .answer) .number) 0 ≡ t → Good (after c b)
     go true q =
-        let s = performed-kept c (read b) (g .kept) (m .byte) in
+        let s = performed-kept c (read b) (g .invariants) (m .byte) in
         holds-good _ (after c b) s (granted-holds c b (s .clean) (g .long) (eqb-true _ _ q))
     go false q = rw (refused-stays c b (eqb-false _ _ q) (g .long)) g
 

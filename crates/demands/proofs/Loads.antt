@@ -36,10 +36,10 @@ use Rattle.chip.proofs.Checked.{refusal-told, none-of, checks, unrefused, as-ch
 use Rattle.chip.proofs.Once.{at-most-one}
 use Rattle.chip.proofs.Loading.{load-refused, load-granted, load-shared, load-harmless}
 use Rattle.block.specs.Layout.{read}
-use Rattle.block.proofs.Fit.{performed-fit}
+use Rattle.block.proofs.Fit.{small, performed-fit}
 use Rattle.block.proofs.Kept.{performed-clean}
 use Rattle.cleftromi.specs.Interface.{cycle-by, number-of, answer, after}
-use Rattle.cleftromi.proofs.Fields.{small, Fields, fields}
+use Rattle.cleftromi.proofs.Fields.{Fields, fields}
 use Rattle.cleftromi.proofs.Blocks.{granted-holds, refused-stays}
 use Rattle.demands.specs.Histories as histories
 use Rattle.demands.specs.Histories.{refusal, Reached}
@@ -64,7 +64,7 @@ is-load m s =
     (λ n e. (counted-present m (s .shared .count) (n .0) (n .1 .0), refl))
 
 answer-fields : (c : Call) (b : List ℕ) → Good b → Fields (values (performed c (read b) .answer)) (performed c (read b) .irq) (answer c b)
-answer-fields c b g = rw (long-answer c b (g .long)) (fields _ _ (performed-fit c (read b) (g .kept .clean)))
+answer-fields c b g = rw (long-answer c b (g .long)) (fields _ _ (performed-fit c (read b) (g .invariants .clean)))
 
 pub record Loaded (m : ℕ) (b : List ℕ) (r : ℕ) (e : List ℕ) : Type 0 where
   pub there : m < present (read b)
@@ -81,7 +81,7 @@ loaded m {b} g k n =
       byte = rw (k .answered) (answer-fields (load-call m) b g .byte ∙ ap (λ (o : Outcome). values (o .answer) .byte) (l .1));
       reads =
           rw (k .left)
-          (granted-holds (load-call m) b (performed-clean (load-call m) (read b) (g .kept .clean) (k .byte)) (g .long) n .reads
+          (granted-holds (load-call m) b (performed-clean (load-call m) (read b) (g .invariants .clean) (k .byte)) (g .long) n .reads
           ∙ ap (λ (o : Outcome). o .system) (l .1));
     }
 
@@ -197,10 +197,10 @@ harmless-law m value b e r reached k off code cycle address d =
     go : (t : Bool) → eqb (values (performed (load-call m) s .answer) .number) 0 ≡ t → Same-answer (answer c b) (answer c e)
     go true q =
         let l = loaded m g made (eqb-true _ _ q) in
-        let n = g .kept .clean in
+        let n = g .invariants .clean in
         let same =
         access-answer code cycle address s (load m s .system) (load-shared m s (l .there) (n .places .0) (n .places .1))
-        (λ page number i p q. load-harmless m s (l .there) (n .places .0) (n .places .1) (g .kept .apart) off page number i p q)
+        (λ page number i p q. load-harmless m s (l .there) (n .places .0) (n .places .1) (g .invariants .apart) off page number i p q)
         (n .shared .entry) (λ u. d (answer-fields c b g .kind ∙ u)) in
         rw (long-answer c b (g .long), long-answer c e (h .long), l .reads, same)
         (but-irq (performed c s .answer) (performed c s .irq) (performed c (load m s .system) .irq))
@@ -212,18 +212,18 @@ harmless-law m value b e r reached k off code cycle address d =
 
 pub demand-3 : Demand-3
 demand-3 = record {
-  one-match = λ r page number i j p n hi hj. at-most-one _ (reached-good r .kept .apart) page number i j p n hi hj;
+  one-match = λ r page number i j p n hi hj. at-most-one _ (reached-good r .invariants .apart) page number i j p n hi hj;
   refused-exactly = λ {m} {b = b} r k granted e.
       let g = reached-good r in
       let c = register-made k in
       let l = loaded m g c (granted-told _ b _ (c .answered) granted .granted) in
-      let s = g .kept .clean .places in
+      let s = g .invariants .clean .places in
       rw (l .byte) (load-refused m (read b) (l .there) (s .0) (s .1) e);
   else-enabled = λ {m} {b = b} r k granted e n.
       let g = reached-good r in
       let c = register-made k in
       let l = loaded m g c (granted-told _ b _ (c .answered) granted .granted) in
-      let s = g .kept .clean .places in
+      let s = g .invariants .clean .places in
       let d = load-granted m (read b) (l .there) (s .0) (s .1) (rw (l .byte) at n) in
       (l .byte ∙ d .0, rw (l .reads, d .1) (clean-e (ac (unit (read b) m) 7) ∙ e));
   harmless = λ {m} {value} {loaded} {b} {after} r k off {function-code} {direction} {address} a a′ d.

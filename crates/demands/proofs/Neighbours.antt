@@ -30,9 +30,9 @@ no-stale-neighbour = record {
   sound = λ {b} r.
       let g = reached-good r in
       record {
-        marked = g .kept .agreed;
-        pending = λ i h. pending-enabled (descriptor (read b) i .ssr) (g .kept .clean .descriptors i h .ssr);
-        within = g .kept .clean;
+        marked = g .invariants .agreed;
+        pending = λ i h. pending-enabled (descriptor (read b) i .ssr) (g .invariants .clean .descriptors i h .ssr);
+        within = g .invariants .clean;
         form = g .form;
       };
 }
