@@ -1,0 +1,8 @@
+-- `direction` meets its contract: by the one test. Assumes nothing.
+use borrow.Author.Tests.{eq-eqb, ne-eqb}
+use Rattle.lines.proofs.line.direction.Statement.{statement}
+use Rattle.lines.proofs.line.direction.Tie as tie
+
+pub direction-spec : {M : Type 1} → statement M
+direction-spec =
+    tie.close (tie.spec (λ c. rw (eq-eqb _ _ (c .if1 .taken))) (λ c. rw (ne-eqb _ _ (c .if1 .left))))

@@ -1,0 +1,24 @@
+-- `violation` meets its contract: by each part. Assumes nothing.
+use borrow.Author.Needs.{needs}
+use Rattle.masks.proofs.Free.{free}
+use Rattle.lines.specs.Text.{printed}
+use Rattle.lines.proofs.text.violation.Statement.{statement}
+use Rattle.lines.proofs.text.violation.Tie as tie
+
+returns : tie.Need-returns
+unfolding printed
+returns c =
+    rw (
+      c .of .ensures,
+      c .before .before .flag2 .ensures,
+      c .before .before .before .flag .ensures,
+      c .before .before .before .before .hex-digit3 .ensures,
+      c .before .before .before .before .before .hex-digit2 .ensures,
+      c .before .before .before .before .before .before .hex-digit .ensures,
+    )
+
+pub violation-spec : {M : Type 1} → statement M
+violation-spec =
+    tie.close
+    (tie.spec
+    free (λ c. search needs) free free free free (λ c. search needs) free returns)

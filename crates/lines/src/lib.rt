@@ -1,0 +1,3 @@
+pub mod line;
+pub mod text;
+pub mod turn;
