@@ -1,6 +1,7 @@
 // A line of the bench as it is held, and what an answer prints as: document 01, "The bench program".
-ghost use Prim.Native.Nat.{_<_, _^_};
+ghost use Prim.Native.Nat.{_<_, _^_, min};
 ghost use mathlib.Core.Path.{_≡_};
+ghost use lib.ListN.{length};
 ghost use Rattle.chip.specs.declared.answer.Answer.the-variants.{Byte, Mapped, Violation};
 ghost use Rattle.lines.specs.Text.{empty, is-empty, pushed, with-bytes, text, hex-digit, flag, printed, bad};
 use chip::answer::Answer;
@@ -51,6 +52,14 @@ impl Text {
         }
         text
     }
+}
+
+// As many bytes as are wanted, or all where there are fewer.
+pub fn within(wanted: usize, bytes: &[u8]) -> usize
+    ensures { λ r. ⌜ r ≡ min wanted (length (now (bytes .entry))) ⌝ }
+{
+    let all = bytes.len();
+    if wanted < all { wanted } else { all }
 }
 
 fn hex_digit(n: u32) -> u8
