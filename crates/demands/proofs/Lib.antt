@@ -5,3 +5,4 @@ pub mod Refusals
 pub mod Totality
 pub mod Loads
 pub mod Neighbours
+pub mod Bench

@@ -90,4 +90,13 @@ outcomes = record {
   cleftromi-access = λ κs a x y v w. both;
   cleftromi-register = λ κs a x y v w. both;
   cleftromi-acknowledge = λ κs a x y v w. both;
+  -- lines
+  line-parse = λ κs a x y v w. value;
+  Text-new = λ κs a x y v w. value;
+  Text-is-empty = λ κs a x y v w. value;
+  Text-push = λ κs a x y v w. value;
+  text-within = λ κs a x y v w. value;
+  text-bad = λ κs a x y v w. value;
+  text-print = λ κs a x y v w. value;
+  turn-answer = λ κs a x y v w. value;
 }

@@ -3,3 +3,4 @@ pub mod Outcomes
 pub mod Histories
 pub mod Totality
 pub mod Demands
+pub mod Bench

@@ -69,6 +69,15 @@ use Rattle.cleftromi.proofs.cleftromi_reset as cleftromi-reset
 use Rattle.cleftromi.proofs.cleftromi_access as cleftromi-access
 use Rattle.cleftromi.proofs.cleftromi_register as cleftromi-register
 use Rattle.cleftromi.proofs.cleftromi_acknowledge as cleftromi-acknowledge
+-- lines
+use Rattle.lines.proofs.line.parse as line-parse
+use Rattle.lines.proofs.text.Text.new as Text-new
+use Rattle.lines.proofs.text.Text.is_empty as Text-is-empty
+use Rattle.lines.proofs.text.Text.push as Text-push
+use Rattle.lines.proofs.text.within as text-within
+use Rattle.lines.proofs.text.bad as text-bad
+use Rattle.lines.proofs.text.print as text-print
+use Rattle.lines.proofs.turn.answer as turn-answer
 
 pub record Outcomes : Type 0 where
   -- masks
@@ -138,3 +147,12 @@ pub record Outcomes : Type 0 where
   pub cleftromi-access : At-most-one cleftromi-access.Kinds.ps cleftromi-access.Kinds.r cleftromi-access.Reads.Post
   pub cleftromi-register : At-most-one cleftromi-register.Kinds.ps cleftromi-register.Kinds.r cleftromi-register.Reads.Post
   pub cleftromi-acknowledge : At-most-one cleftromi-acknowledge.Kinds.ps cleftromi-acknowledge.Kinds.r cleftromi-acknowledge.Reads.Post
+  -- lines
+  pub line-parse : At-most-one line-parse.Kinds.ps line-parse.Kinds.r line-parse.Reads.Post
+  pub Text-new : At-most-one Text-new.Kinds.ps Text-new.Kinds.r Text-new.Reads.Post
+  pub Text-is-empty : At-most-one Text-is-empty.Kinds.ps Text-is-empty.Kinds.r Text-is-empty.Reads.Post
+  pub Text-push : At-most-one Text-push.Kinds.ps Text-push.Kinds.r Text-push.Reads.Post
+  pub text-within : At-most-one text-within.Kinds.ps text-within.Kinds.r text-within.Reads.Post
+  pub text-bad : At-most-one text-bad.Kinds.ps text-bad.Kinds.r text-bad.Reads.Post
+  pub text-print : At-most-one text-print.Kinds.ps text-print.Kinds.r text-print.Reads.Post
+  pub turn-answer : At-most-one turn-answer.Kinds.ps turn-answer.Kinds.r turn-answer.Reads.Post

@@ -24,6 +24,10 @@ At-least-one {n} ps r Promise =
     (κs : Lfts n) (a : Dens κs ps)
     → (x : resT r κs .Denot) × (v : Lasts (endedOf n ps r) κs a) × Promise κs a x (atExit (endedOf n ps r) κs a v)
 
+-- a call of a function that is lent nothing, with these arguments and this result
+abbrev pub Returned : (ps : List (PK 0)) (r : RK 0) → Out 0 ps r → (a : Dens tt ps) → resT r tt .Denot → Type 0
+Returned ps r Promise a x = (v : Lasts (endedOf 0 ps r) tt a) × Promise tt a x (atExit (endedOf 0 ps r) tt a v)
+
 -- the functions for C: the block that is lent, `&mut [u8]`; the other parameters; the answer, `u64`
 abbrev lent : PK 1
 lent = pMutS (rtF (fInt w8)) 0 tt

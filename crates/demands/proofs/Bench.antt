@@ -1,0 +1,45 @@
+-- The bench prints the transcript of its input. Assumes nothing.
+use Prim.Native.Nat.{ℕ, _<_}
+use mathlib.Core.Path.{_≡_, refl, sym, ap, _∙_}
+use mathlib.Core.Logic.{_≢_}
+use mathlib.Core.Bool.{false≢true}
+use mathlib.Core.List.{List, [], _∷_, _++_, append-nil}
+use native.Mathlib.Omega.{arith}
+use lib.ListN.{length}
+use borrow.Author.Tests.{ne-eqb}
+use Rattle.chip.specs.declared.system.System.{System}
+use Rattle.chip.specs.Reset.{nothing}
+use Rattle.lines.specs.Line.{meaning}
+use Rattle.lines.specs.Text.{empty, is-empty, text}
+use Rattle.lines.specs.Turn.{turn, lines, answers}
+use Rattle.lines.specs.declared.text.Text.{Text}
+use Rattle.lines.specs.declared.turn.Turn.{Turn}
+use Rattle.lines.proofs.Texts.{text-snoc, not-empty, meaning-held, told-held, long-bad}
+use Rattle.lines.proofs.Begun.{begun, begun-snoc, begun-ended, begun-last, line-for-line}
+use Rattle.demands.specs.Bench.{Answer, Prints, byte, feed, last, end, Bench}
+
+-- an answer, where the text of a line is in hand
+answered : (l : List ℕ) (system : System) {line : Text} {t : Turn} → line ≡ text l → Answer line system t → t ≡ turn (meaning l) system
+answered l system e a = a .1 ∙ rw (e, meaning-held l) refl
+
+-- in hand is the text of the bytes of the line so far
+prints-from : (l : List ℕ) {line : Text} {system : System} {input printed : List ℕ}
+    → line ≡ text l → Prints line system input printed → printed ≡ answers (begun l (lines input)) system
+prints-from l e (byte {c = c} {input = input} other pushed p) =
+    prints-from (l ++ c ∷ []) (pushed .1 ∙ rw e (sym (text-snoc empty l c))) p ∙ rw (begun-snoc l c (lines input), ne-eqb c 10 other) refl
+prints-from l {system = s} e (feed {input = input} a new p) =
+    rw
+    (prints-from [] (new .1) p, answered l s e a, told-held (meaning l) s, begun-ended l (lines input))
+    refl
+prints-from [] e (last filled a) = absurd (false≢true (filled .1 ∙ ap is-empty e))
+prints-from (b ∷ l) {system = s} e (last filled a) =
+    rw (answered (b ∷ l) s e a, told-held (meaning (b ∷ l)) s, begun-last b l) (sym (append-nil _))
+prints-from [] e (end none) = refl
+prints-from (b ∷ l) e (end none) = absurd (false≢true (sym (none .1 ∙ ap is-empty e ∙ not-empty b l)))
+
+pub bench : Bench
+bench = record {
+  prints = λ n s p. rw (← s .1) (prints-from [] (n .1) p);
+  line-for-line = λ input. line-for-line (lines input) nothing;
+  long = λ line h. long-bad line (omega arith);
+}

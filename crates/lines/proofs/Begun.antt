@@ -1,0 +1,109 @@
+-- The lines of an input.
+--     begun           a line that has begun, and what is still to come
+--     line-for-line   one line is printed for each
+-- Assumes nothing.
+use Prim.Native.Nat.{ℕ, zero, suc, _/_, _%_}
+use mathlib.Core.Path.{_≡_, refl, sym, ap, _∙_}
+use mathlib.Core.Bool.{Bool, true, false, not, _&&_, cond, and-eq-true-iff}
+use mathlib.Core.List.{List, [], _∷_, _++_}
+use native.Mathlib.Omega.{arith}
+use lib.Dec.{eqb}
+use lib.ListN.{length, getD}
+use Rattle.chip.specs.Answer.{number}
+use Rattle.chip.specs.Call.{performed}
+use Rattle.chip.specs.declared.answer.Answer.{Answer}
+use Rattle.chip.specs.declared.answer.Answer.the-variants.{Refused, Done, Byte, Mapped, Violation, Undefined}
+use Rattle.chip.specs.declared.system.System.{System}
+use Rattle.lines.specs.Line.{meaning}
+use Rattle.lines.specs.Text.{digits, hex-digit, flag, printed}
+use Rattle.lines.specs.Turn.{told, left, longer, lines, answers}
+use Rattle.lines.specs.declared.line.Line.{Line}
+use Rattle.lines.specs.declared.line.Line.the-variants.{Called, Bad}
+
+-- the lines of an input, of which these bytes came before
+abbrev pub begun : (line : List ℕ) → List (List ℕ) → List (List ℕ)
+begun [] ls = ls
+begun (c ∷ line) ls = longer c (begun line ls)
+
+-- one byte more has come
+pub begun-snoc : (line : List ℕ) (c : ℕ) (ls : List (List ℕ)) → begun (line ++ c ∷ []) ls ≡ begun line (longer c ls)
+begun-snoc [] c ls = refl
+begun-snoc (b ∷ line) c ls = ap (longer b) (begun-snoc line c ls)
+
+-- its line feed has come
+pub begun-ended : (line : List ℕ) (ls : List (List ℕ)) → begun line ([] ∷ ls) ≡ line ∷ ls
+begun-ended [] ls = refl
+begun-ended (b ∷ line) ls = ap (longer b) (begun-ended line ls)
+
+-- the input has ended
+pub begun-last : (b : ℕ) (line : List ℕ) → begun (b ∷ line) [] ≡ (b ∷ line) ∷ []
+begun-last b [] = refl
+begun-last b (c ∷ line) = ap (longer b) (begun-last c line)
+
+-- ---- one line for each
+
+-- no line feed among these
+abbrev plain : List ℕ → Bool
+plain [] = true
+plain (c ∷ l) = not (eqb c 10) && plain l
+
+plain-at : (l : List ℕ) → plain l ≡ true → (i : ℕ) → eqb (getD l i 0) 10 ≡ false
+plain-at [] e i = refl
+plain-at (c ∷ l) e zero = go (eqb c 10) (and-eq-true-iff (not (eqb c 10)) (plain l) .0 e .0)
+  where
+    go : (b : Bool) → not b ≡ true → b ≡ false
+    go true e = sym e
+    go false e = refl
+plain-at (c ∷ l) e (suc i) = plain-at l (and-eq-true-iff (not (eqb c 10)) (plain l) .0 e .1) i
+
+plain-hex : (n : ℕ) → eqb (hex-digit n) 10 ≡ false
+plain-hex n = plain-at digits refl (n % 16)
+
+plain-flag : (b : Bool) → eqb (flag b) 10 ≡ false
+plain-flag true = refl
+plain-flag false = refl
+
+-- bytes that are no line feed, then one, and the rest
+data Fed : List ℕ → (rest : List ℕ) → Type 0 where
+  feed : {rest : List ℕ} → Fed (10 ∷ rest) rest
+  next : {c : ℕ} {l rest : List ℕ} → eqb c 10 ≡ false → Fed l rest → Fed (c ∷ l) rest
+
+fed-lines : {l rest : List ℕ} → Fed l rest → length (lines l) ≡ suc (length (lines rest))
+fed-lines feed = refl
+fed-lines (next {c} {l} {rest} e f) = rw e (go (lines l) (fed-lines f))
+  where
+    go : (ls : List (List ℕ)) → length ls ≡ suc (length (lines rest)) → length (longer c ls) ≡ suc (length (lines rest))
+    go [] q = absurd (omega arith)
+    go (l ∷ ls) q = q
+
+-- two digits, and flags to the end
+pair : (n m : ℕ) {l rest : List ℕ} → Fed l rest → Fed (hex-digit n ∷ hex-digit m ∷ l) rest
+pair n m f = next (plain-hex n) (next (plain-hex m) f)
+
+irq-last : (irq : Bool) (rest : List ℕ) → Fed (32 ∷ flag irq ∷ 10 ∷ rest) rest
+irq-last irq rest = next refl (next (plain-flag irq) feed)
+
+where-last : (u d : ℕ) (win irq : Bool) (rest : List ℕ)
+    → Fed (hex-digit u ∷ 32 ∷ hex-digit (d / 16) ∷ hex-digit d ∷ 32 ∷ flag win ∷ 32 ∷ flag irq ∷ 10 ∷ rest) rest
+where-last u d win irq rest =
+    next (plain-hex u) (next refl (pair (d / 16) d (next refl (next (plain-flag win) (irq-last irq rest)))))
+
+printed-fed : (a : Answer) (irq : Bool) (rest : List ℕ) → Fed (printed a irq ++ rest) rest
+unfolding printed
+printed-fed (Mapped a u d w) irq rest =
+    next refl (next refl
+    (pair (a / 1048576) (a / 65536) (pair (a / 4096) (a / 256) (pair (a / 16) a
+    (next refl (where-last u d w irq rest))))))
+printed-fed (Violation u d w) irq rest = next refl (next refl (where-last u d w irq rest))
+printed-fed Undefined irq rest = next refl (irq-last irq rest)
+printed-fed Done irq rest = next refl (next refl (irq-last irq rest))
+printed-fed (Byte b) irq rest = next refl (next refl (pair (b / 16) b (irq-last irq rest)))
+printed-fed (Refused r) irq rest = next refl (next refl (next refl (next (plain-hex (number r)) feed)))
+
+told-fed : (l : Line) (s : System) (rest : List ℕ) → Fed (told l s ++ rest) rest
+told-fed (Called c) s rest = printed-fed (performed c s .answer) (performed c s .irq) rest
+told-fed Bad s rest = next refl (next refl (next refl feed))
+
+pub line-for-line : (ls : List (List ℕ)) (s : System) → length (lines (answers ls s)) ≡ length ls
+line-for-line [] s = refl
+line-for-line (l ∷ ls) s = fed-lines (told-fed (meaning l) s (answers ls (left (meaning l) s))) ∙ ap suc (line-for-line ls (left (meaning l) s))
