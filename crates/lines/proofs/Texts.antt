@@ -12,7 +12,7 @@ use mathlib.Core.List.{List, [], _∷_, _++_, append-nil}
 use native.Mathlib.Nat.{le-refl, min-le-right, min-zero, zero-min, suc-min-suc}
 use native.Mathlib.Omega.{arith}
 use lib.Dec.{ltb, lit<, lit≤}
-use lib.ListN.{length, take, set, length-set, length-append}
+use lib.ListN.{length, take, set, length-set}
 use lib.Seq.{take-all, take-suc-set, take-at, append-snoc, length-take-le}
 use native.Mathlib.Numerals.{add-one}
 use borrow.Author.Tests.{ne-eqb, ltb-true, ltb-false}
@@ -21,7 +21,7 @@ use Rattle.chip.specs.declared.answer.Answer.{Answer}
 use Rattle.chip.specs.declared.answer.Answer.the-variants.{Refused, Done, Byte, Mapped, Violation, Undefined}
 use Rattle.chip.specs.declared.system.System.{System}
 use Rattle.lines.specs.Line.{start-form, write-form, read-form, access-form, acknowledge-form, meaning}
-use Rattle.lines.specs.Text.{room, empty, is-empty, pushed, with-bytes, text, held, printed, bad}
+use Rattle.lines.specs.Text.{room, empty, is-empty, pushed, with-bytes, text, held, printed}
 use Rattle.lines.specs.Turn.{told}
 use Rattle.lines.specs.declared.line.Line.{Line}
 use Rattle.lines.specs.declared.line.Line.the-variants.{Called, Bad}

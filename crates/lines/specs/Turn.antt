@@ -6,7 +6,6 @@ use lib.Dec.{eqb}
 use Rattle.chip.specs.Call.{performed}
 use Rattle.chip.specs.Reset.{nothing}
 use Rattle.chip.specs.declared.system.System.{System}
-use Rattle.chip.specs.declared.answer.Outcome.{Outcome}
 use Rattle.lines.specs.Line.{meaning}
 use Rattle.lines.specs.Text.{text, printed, bad}
 use Rattle.lines.specs.declared.line.Line.{Line}

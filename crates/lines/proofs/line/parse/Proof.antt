@@ -26,32 +26,99 @@ write-requires c κs =
 
 returns-2 : tie.Need-returns-2
 unfolding meaning
-returns-2 c = rw (← c .before .before .before .before .before .fits2 .ensures, c .before .before .before .before .if1 .left, ← c .before .before .fits3 .ensures, c .before .if2 .taken) (c .write .ensures)
+returns-2 c =
+    let at2 = c .before in
+    let at1 = at2 .before .before .before in
+    rw (
+      ← at1 .before .fits2 .ensures,
+      at1 .if1 .left,
+      ← at2 .before .fits3 .ensures,
+      at2 .if2 .taken,
+    ) (c .write .ensures)
 
 read-requires : tie.Need-read-requires
 read-requires c κs = omega (arith, fits-long read-form _ (sym (c .before .fits4 .ensures) ∙ c .if3 .taken))
 
 returns-3 : tie.Need-returns-3
 unfolding meaning
-returns-3 c = rw (← c .before .before .before .before .before .before .before .before .fits2 .ensures, c .before .before .before .before .before .before .before .if1 .left, ← c .before .before .before .before .before .fits3 .ensures, c .before .before .before .before .if2 .left, ← c .before .before .fits4 .ensures, c .before .if3 .taken) (c .read .ensures)
+returns-3 c =
+    let at3 = c .before in
+    let at2 = at3 .before .before .before in
+    let at1 = at2 .before .before .before in
+    rw (
+      ← at1 .before .fits2 .ensures,
+      at1 .if1 .left,
+      ← at2 .before .fits3 .ensures,
+      at2 .if2 .left,
+      ← at3 .before .fits4 .ensures,
+      at3 .if3 .taken,
+    ) (c .read .ensures)
 
 access-requires : tie.Need-access-requires
 access-requires c κs = omega (arith, fits-long access-form _ (sym (c .before .fits5 .ensures) ∙ c .if4 .taken))
 
 returns-4 : tie.Need-returns-4
 unfolding meaning
-returns-4 c = rw (← c .before .before .before .before .before .before .before .before .before .before .before .fits2 .ensures, c .before .before .before .before .before .before .before .before .before .before .if1 .left, ← c .before .before .before .before .before .before .before .before .fits3 .ensures, c .before .before .before .before .before .before .before .if2 .left, ← c .before .before .before .before .before .fits4 .ensures, c .before .before .before .before .if3 .left, ← c .before .before .fits5 .ensures, c .before .if4 .taken) (c .access .ensures)
+returns-4 c =
+    let at4 = c .before in
+    let at3 = at4 .before .before .before in
+    let at2 = at3 .before .before .before in
+    let at1 = at2 .before .before .before in
+    rw (
+      ← at1 .before .fits2 .ensures,
+      at1 .if1 .left,
+      ← at2 .before .fits3 .ensures,
+      at2 .if2 .left,
+      ← at3 .before .fits4 .ensures,
+      at3 .if3 .left,
+      ← at4 .before .fits5 .ensures,
+      at4 .if4 .taken,
+    ) (c .access .ensures)
 
 acknowledge-requires : tie.Need-acknowledge-requires
 acknowledge-requires c κs = omega (arith, fits-long acknowledge-form _ (sym (c .before .fits6 .ensures) ∙ c .if5 .taken))
 
 returns-5 : tie.Need-returns-5
 unfolding meaning
-returns-5 c = rw (← c .before .before .before .before .before .before .before .before .before .before .before .before .before .before .fits2 .ensures, c .before .before .before .before .before .before .before .before .before .before .before .before .before .if1 .left, ← c .before .before .before .before .before .before .before .before .before .before .before .fits3 .ensures, c .before .before .before .before .before .before .before .before .before .before .if2 .left, ← c .before .before .before .before .before .before .before .before .fits4 .ensures, c .before .before .before .before .before .before .before .if3 .left, ← c .before .before .before .before .before .fits5 .ensures, c .before .before .before .before .if4 .left, ← c .before .before .fits6 .ensures, c .before .if5 .taken) (c .acknowledge .ensures)
+returns-5 c =
+    let at5 = c .before in
+    let at4 = at5 .before .before .before in
+    let at3 = at4 .before .before .before in
+    let at2 = at3 .before .before .before in
+    let at1 = at2 .before .before .before in
+    rw (
+      ← at1 .before .fits2 .ensures,
+      at1 .if1 .left,
+      ← at2 .before .fits3 .ensures,
+      at2 .if2 .left,
+      ← at3 .before .fits4 .ensures,
+      at3 .if3 .left,
+      ← at4 .before .fits5 .ensures,
+      at4 .if4 .left,
+      ← at5 .before .fits6 .ensures,
+      at5 .if5 .taken,
+    ) (c .acknowledge .ensures)
 
 returns-6 : tie.Need-returns-6
 unfolding meaning
-returns-6 c = rw (← c .before .before .before .before .before .before .before .before .before .before .before .before .before .fits2 .ensures, c .before .before .before .before .before .before .before .before .before .before .before .before .if1 .left, ← c .before .before .before .before .before .before .before .before .before .before .fits3 .ensures, c .before .before .before .before .before .before .before .before .before .if2 .left, ← c .before .before .before .before .before .before .before .fits4 .ensures, c .before .before .before .before .before .before .if3 .left, ← c .before .before .before .before .fits5 .ensures, c .before .before .before .if4 .left, ← c .before .fits6 .ensures, c .if5 .left)
+returns-6 c =
+    let at5 = c in
+    let at4 = at5 .before .before .before in
+    let at3 = at4 .before .before .before in
+    let at2 = at3 .before .before .before in
+    let at1 = at2 .before .before .before in
+    rw (
+      ← at1 .before .fits2 .ensures,
+      at1 .if1 .left,
+      ← at2 .before .fits3 .ensures,
+      at2 .if2 .left,
+      ← at3 .before .fits4 .ensures,
+      at3 .if3 .left,
+      ← at4 .before .fits5 .ensures,
+      at4 .if4 .left,
+      ← at5 .before .fits6 .ensures,
+      at5 .if5 .left,
+    )
 
 pub parse-spec : {M : Type 1} → statement M
 parse-spec =

@@ -1,5 +1,4 @@
 -- `unit` meets its contract: by the one test. Assumes nothing.
-use mathlib.Core.Path.{ap}
 use borrow.Author.Tests.{eq-eqb, ne-eqb}
 use Rattle.masks.proofs.Free.{free}
 use Rattle.lines.proofs.line.unit.Statement.{statement}
