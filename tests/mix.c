@@ -6,6 +6,9 @@
 /* Random numbers                                                      */
 /* ------------------------------------------------------------------ */
 
+/* A seed gives the same calls with every compiler, so no expression draws two
+ * numbers whose order C leaves open. */
+
 /* splitmix64: any seed is a good one, 0 too. */
 uint64_t mix_random(mix *x)
 {
@@ -114,9 +117,20 @@ static void put_read(mix *x, unsigned unit, unsigned address)
     put(x, CALL_REGISTER, unit, address, CLEFTROMI_READ, any_byte(x));
 }
 
+static void put_write_anywhere(mix *x, const model *m, unsigned address, uint8_t value)
+{
+    put_write(x, any_unit(x, m), address, value);
+}
+
+static void put_read_anywhere(mix *x, const model *m, unsigned address)
+{
+    put_read(x, any_unit(x, m), address);
+}
+
 static void put_access(mix *x, unsigned function_code, unsigned direction, unsigned page)
 {
-    put(x, CALL_ACCESS, function_code, direction ? writing(x) : CLEFTROMI_READ, (uint64_t)page << 8 | any_byte(x), 0);
+    uint64_t address = (uint64_t)page << 8 | any_byte(x);
+    put(x, CALL_ACCESS, function_code, direction ? writing(x) : CLEFTROMI_READ, address, 0);
 }
 
 static void put_acknowledge(mix *x, unsigned unit)
@@ -225,7 +239,7 @@ static void put_accumulator(mix *x, const model *m, const model_descriptor *d, u
     };
     for (unsigned n = 0; n < 9; n++)
         if (!one_in(x, left_out))
-            put_write(x, any_unit(x, m), CLEFTROMI_AC0 + n, bytes[n]);
+            put_write_anywhere(x, m, CLEFTROMI_AC0 + n, bytes[n]);
 }
 
 /* ------------------------------------------------------------------ */
@@ -236,8 +250,11 @@ static void load_segment(mix *x, const model *m)
 {
     model_descriptor d = wanted_segment(x, m);
     put_accumulator(x, m, &d, one_in(x, 6) ? 6 : 1000);
-    put_write(x, any_unit(x, m), CLEFTROMI_DP, (uint8_t)(mix_below(x, 32) | (one_in(x, 8) ? 0xE0 : 0)));
-    put_read(x, any_unit(x, m), CLEFTROMI_LOAD);
+    unsigned pointer = mix_below(x, 32);
+    if (one_in(x, 8))
+        pointer |= 0xE0; /* bits that DP does not have */
+    put_write_anywhere(x, m, CLEFTROMI_DP, (uint8_t)pointer);
+    put_read_anywhere(x, m, CLEFTROMI_LOAD);
 }
 
 /* One page into a descriptor that is free, so that whole units fill up. */
@@ -264,8 +281,10 @@ static void reload(mix *x, const model *m)
     mix_enabled(x, m, &unit, &number);
     put_write(x, unit, CLEFTROMI_DP, (uint8_t)number);
     put_read(x, unit, CLEFTROMI_SSR);
-    if (one_in(x, 8))
-        put_write(x, unit, CLEFTROMI_AC0 + mix_below(x, 9), any_byte(x));
+    if (one_in(x, 8)) {
+        uint8_t value = any_byte(x);
+        put_write(x, unit, CLEFTROMI_AC0 + mix_below(x, 9), value);
+    }
     if (one_in(x, 8))
         put_write(x, unit, CLEFTROMI_DP, any_byte(x));
     put_read(x, one_in(x, 8) ? any_unit(x, m) : unit, CLEFTROMI_LOAD);
@@ -280,10 +299,12 @@ static void hit(mix *x, const model *m, uint8_t status, unsigned direction)
         put_access(x, code, direction, any_word(x));
         return;
     }
-    put_write(x, any_unit(x, m), CLEFTROMI_AST(code), mix_number(x, d));
+    put_write_anywhere(x, m, CLEFTROMI_AST(code), mix_number(x, d));
     put_access(x, code, direction, mix_page(x, d));
-    if (one_in(x, 2))
-        put_access(x, code, mix_below(x, 2), mix_page(x, d));
+    if (one_in(x, 2)) {
+        unsigned page = mix_page(x, d);
+        put_access(x, code, mix_below(x, 2), page);
+    }
 }
 
 static void access_segment(mix *x, const model *m)
@@ -294,7 +315,8 @@ static void access_segment(mix *x, const model *m)
 static void access_anything(mix *x, const model *m)
 {
     (void)m;
-    put_access(x, mix_below(x, 16), mix_below(x, 2), any_word(x));
+    unsigned page = any_word(x), direction = mix_below(x, 2);
+    put_access(x, mix_below(x, 16), direction, page);
 }
 
 /* What a host reads after a fault, of any unit. */
@@ -303,7 +325,7 @@ static void put_status_reads(mix *x, const model *m)
     static const uint8_t registers[] = {CLEFTROMI_GSR, CLEFTROMI_LSR, CLEFTROMI_RDP,
                                         CLEFTROMI_AC0, CLEFTROMI_AC1, CLEFTROMI_AC6};
     for (unsigned i = 0; i < 2; i++)
-        put_read(x, any_unit(x, m), registers[mix_below(x, sizeof registers)]);
+        put_read_anywhere(x, m, registers[mix_below(x, sizeof registers)]);
 }
 
 static void fault(mix *x, const model *m)
@@ -316,7 +338,7 @@ static void fault(mix *x, const model *m)
             hit(x, m, CLEFTROMI_SSR_E | CLEFTROMI_SSR_WP, CLEFTROMI_WRITE);
     put_status_reads(x, m);
     if (one_in(x, 2))
-        put_write(x, any_unit(x, m), CLEFTROMI_GSR, any_byte(x));
+        put_write_anywhere(x, m, CLEFTROMI_GSR, any_byte(x));
 }
 
 /* IP by an access or by a status write, IE, acknowledge, and IP away again. */
@@ -325,12 +347,13 @@ static void interrupt(mix *x, const model *m)
     unsigned unit = any_unit(x, m), number = mix_below(x, 32);
     mix_enabled(x, m, &unit, &number);
     put_write(x, unit, CLEFTROMI_DP, (uint8_t)number);
-    put_write(x, unit, CLEFTROMI_SSR,
-              (uint8_t)(any_byte(x) | CLEFTROMI_SSR_E | (one_in(x, 2) ? CLEFTROMI_SSR_I : CLEFTROMI_SSR_IP)));
+    uint8_t status = any_byte(x) | CLEFTROMI_SSR_E;
+    status |= one_in(x, 2) ? CLEFTROMI_SSR_I : CLEFTROMI_SSR_IP;
+    put_write(x, unit, CLEFTROMI_SSR, status);
     if (one_in(x, 2))
-        put_write(x, any_unit(x, m), CLEFTROMI_GSR, any_byte(x) | CLEFTROMI_GSR_IE);
+        put_write_anywhere(x, m, CLEFTROMI_GSR, any_byte(x) | CLEFTROMI_GSR_IE);
     hit(x, m, CLEFTROMI_SSR_E | CLEFTROMI_SSR_I, mix_below(x, 2));
-    put_read(x, any_unit(x, m), one_in(x, 2) ? CLEFTROMI_IDP : CLEFTROMI_LSR);
+    put_read_anywhere(x, m, one_in(x, 2) ? CLEFTROMI_IDP : CLEFTROMI_LSR);
     put_acknowledge(x, any_unit(x, m));
     if (one_in(x, 2))
         put_write(x, unit, CLEFTROMI_SSR, any_byte(x) & (uint8_t)~CLEFTROMI_SSR_IP);
@@ -341,15 +364,15 @@ static void status_write(mix *x, const model *m)
     unsigned unit = any_unit(x, m), number = mix_below(x, 32);
     if (one_in(x, 2))
         mix_enabled(x, m, &unit, &number);
-    put_write(x, any_unit(x, m), CLEFTROMI_DP, (uint8_t)number);
+    put_write_anywhere(x, m, CLEFTROMI_DP, (uint8_t)number);
     put_write(x, unit, CLEFTROMI_SSR, any_byte(x));
 }
 
 static void transfer(mix *x, const model *m)
 {
     if (one_in(x, 2))
-        put_write(x, any_unit(x, m), CLEFTROMI_DP, any_byte(x));
-    put_read(x, any_unit(x, m), CLEFTROMI_SSR);
+        put_write_anywhere(x, m, CLEFTROMI_DP, any_byte(x));
+    put_read_anywhere(x, m, CLEFTROMI_SSR);
 }
 
 /* Some bytes written globally, others not, before an operation that counts
@@ -359,9 +382,9 @@ static void half_accumulator(mix *x, const model *m)
     static const uint8_t operations[] = {CLEFTROMI_LOAD, CLEFTROMI_TRANSLATE, CLEFTROMI_LSR, CLEFTROMI_SSR};
     model_descriptor d = wanted_segment(x, m);
     if (one_in(x, 2))
-        put_read(x, any_unit(x, m), CLEFTROMI_SSR);
+        put_read_anywhere(x, m, CLEFTROMI_SSR);
     put_accumulator(x, m, &d, 3);
-    put_read(x, any_unit(x, m), operations[mix_below(x, sizeof operations)]);
+    put_read_anywhere(x, m, operations[mix_below(x, sizeof operations)]);
 }
 
 static void translate(mix *x, const model *m)
@@ -374,30 +397,32 @@ static void translate(mix *x, const model *m)
         space = mix_number(x, d);
     }
     if (one_in(x, 4))
-        put_read(x, any_unit(x, m), CLEFTROMI_SSR); /* takes GAT from one unit */
+        put_read_anywhere(x, m, CLEFTROMI_SSR); /* takes GAT from one unit */
     if (!one_in(x, 10))
-        put_write(x, any_unit(x, m), CLEFTROMI_AC0, (uint8_t)(page >> 8));
+        put_write_anywhere(x, m, CLEFTROMI_AC0, (uint8_t)(page >> 8));
     if (!one_in(x, 10))
-        put_write(x, any_unit(x, m), CLEFTROMI_AC1, (uint8_t)page);
+        put_write_anywhere(x, m, CLEFTROMI_AC1, (uint8_t)page);
     if (!one_in(x, 10))
-        put_write(x, any_unit(x, m), CLEFTROMI_AC6, space);
-    put_read(x, any_unit(x, m), CLEFTROMI_TRANSLATE);
+        put_write_anywhere(x, m, CLEFTROMI_AC6, space);
+    put_read_anywhere(x, m, CLEFTROMI_TRANSLATE);
 }
 
 static void read_register(mix *x, const model *m)
 {
-    put_read(x, any_unit(x, m), mix_below(x, 64));
+    put_read_anywhere(x, m, mix_below(x, 64));
 }
 
 static void write_register(mix *x, const model *m)
 {
-    put_write(x, any_unit(x, m), mix_below(x, 64), any_byte(x));
+    uint8_t value = any_byte(x);
+    put_write_anywhere(x, m, mix_below(x, 64), value);
 }
 
 static void write_status(mix *x, const model *m)
 {
     static const uint8_t registers[] = {CLEFTROMI_GSR, CLEFTROMI_LSR, CLEFTROMI_IVR};
-    put_write(x, any_unit(x, m), registers[mix_below(x, sizeof registers)], any_byte(x));
+    uint8_t value = any_byte(x);
+    put_write_anywhere(x, m, registers[mix_below(x, sizeof registers)], value);
 }
 
 /* Places that the map does not have, and writes to what is only read. */
@@ -405,10 +430,14 @@ static void null_operation(mix *x, const model *m)
 {
     static const uint8_t places[] = {0x01, 0x1F, 0x2A, 0x2C, 0x2E, 0x30, 0x32, 0x33, 0x38, 0x3A, 0x3C, 0x3E};
     static const uint8_t only_read[] = {CLEFTROMI_IDP, CLEFTROMI_RDP, CLEFTROMI_TRANSLATE, CLEFTROMI_LOAD};
-    if (one_in(x, 2))
-        put_write(x, any_unit(x, m), only_read[mix_below(x, sizeof only_read)], any_byte(x));
-    else
-        put(x, CALL_REGISTER, any_unit(x, m), places[mix_below(x, sizeof places)], mix_below(x, 2), any_byte(x));
+    bool write = one_in(x, 2);
+    uint8_t value = any_byte(x);
+    if (write) {
+        put_write_anywhere(x, m, only_read[mix_below(x, sizeof only_read)], value);
+        return;
+    }
+    unsigned direction = mix_below(x, 2), place = places[mix_below(x, sizeof places)];
+    put(x, CALL_REGISTER, any_unit(x, m), place, direction, value);
 }
 
 static void acknowledge(mix *x, const model *m)
@@ -441,9 +470,18 @@ static uint64_t bad_number(mix *x, uint64_t good)
     };
     if (one_in(x, 2))
         return edges[mix_below(x, sizeof edges / sizeof edges[0])];
-    if (one_in(x, 4))
-        return mix_random(x) >> mix_below(x, 64);
+    if (one_in(x, 4)) {
+        uint64_t number = mix_random(x);
+        return number >> mix_below(x, 64);
+    }
     return good | (uint64_t)1 << mix_below(x, 64);
+}
+
+static void any_register(mix *x, const model *m)
+{
+    uint8_t value = any_byte(x);
+    unsigned direction = mix_below(x, 2), address = mix_below(x, 64);
+    put(x, CALL_REGISTER, any_unit(x, m), address, direction, value);
 }
 
 static void good_call(mix *x, const model *m)
@@ -456,7 +494,7 @@ static void good_call(mix *x, const model *m)
         access_anything(x, m);
         break;
     case 2:
-        put(x, CALL_REGISTER, any_unit(x, m), mix_below(x, 64), mix_below(x, 2), any_byte(x));
+        any_register(x, m);
         break;
     default:
         acknowledge(x, m);

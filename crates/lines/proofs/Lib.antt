@@ -1,3 +1,4 @@
 pub mod Forms
 pub mod Texts
 pub mod Begun
+pub mod Example

@@ -1,3 +1,4 @@
 pub mod Line
 pub mod Text
 pub mod Turn
+pub mod Example
