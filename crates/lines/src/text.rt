@@ -11,7 +11,7 @@ pub const ROOM: usize = 18;
 
 // The first `length` bytes are held. It goes by value: it is small.
 pub struct Text {
-    pub bytes: [u8; 18],
+    pub bytes: [u8; ROOM],
     pub length: usize,
 }
 
@@ -20,7 +20,7 @@ impl Text {
         ensures { λ r. ⌜ r ≡ empty ⌝ }
     {
         Text {
-            bytes: [0; 18],
+            bytes: [0; ROOM],
             length: 0,
         }
     }
