@@ -2,14 +2,15 @@
 use Prim.Native.Nat.{ℕ}
 use mathlib.Core.Path.{_≡_, refl, sym, ap, _∙_}
 use mathlib.Core.Logic.{_≢_}
-use mathlib.Core.Bool.{false≢true}
+use mathlib.Core.Bool.{Bool, true, false, false≢true}
 use mathlib.Core.List.{List, [], _∷_, _++_, append-nil}
 use native.Mathlib.Omega.{arith}
-use borrow.Author.Tests.{ne-eqb}
+use lib.Dec.{eqb}
+use borrow.Author.Tests.{ne-eqb, eqb-true, eqb-false}
 use Rattle.chip.specs.declared.system.System.{System}
 use Rattle.chip.specs.Reset.{nothing}
 use Rattle.lines.specs.Line.{meaning}
-use Rattle.lines.specs.Text.{empty, is-empty, text}
+use Rattle.lines.specs.Text.{empty, is-empty, pushed, text, held}
 use Rattle.lines.specs.Turn.{turn, lines, answers}
 use Rattle.lines.specs.declared.text.Text.{Text}
 use Rattle.lines.specs.declared.turn.Turn.{Turn}
@@ -36,9 +37,29 @@ prints-from (b ∷ l) {system = s} e (last filled a) =
 prints-from [] e (end none) = refl
 prints-from (b ∷ l) e (end none) = absurd (false≢true (sym (none .1 ∙ ap is-empty e ∙ not-empty b l)))
 
+-- each step can be made
+abbrev answer : Text → System → Turn
+answer line system = turn (meaning (held line)) system
+
+some-from : (line : Text) (system : System) (input : List ℕ) → (printed : List ℕ) × Prints line system input printed
+some-from line system [] = go (is-empty line) refl
+  where
+    go : (b : Bool) → is-empty line ≡ b → (printed : List ℕ) × Prints line system [] printed
+    go true e = ([], end {line = line} {system = system} ((tt, tt), sym e))
+    go false e = (held (answer line system .text), last {line = line} {system = system} {turn = answer line system} ((tt, tt), sym e) ((tt, (tt, tt)), refl))
+some-from line system (c ∷ input) =
+    go (eqb c 10) refl (some-from empty (answer line system .system) input) (some-from (pushed line c) system input)
+  where
+    go : (b : Bool) → eqb c 10 ≡ b → (printed : List ℕ) × Prints empty (answer line system .system) input printed
+        → (printed : List ℕ) × Prints (pushed line c) system input printed → (printed : List ℕ) × Prints line system (c ∷ input) printed
+    go true e next more =
+        rw (eqb-true c 10 e) (held (answer line system .text) ++ next .0, feed {line = line} {next = empty} {system = system} {turn = answer line system} ((tt, (tt, tt)), refl) (tt, refl) (next .1))
+    go false e next more = (more .0, byte {line = line} {next = pushed line c} {system = system} (eqb-false c 10 e) ((tt, (tt, tt)), refl) (more .1))
+
 pub bench : Bench
 bench = record {
   prints = λ n s p. rw (← s .1) (prints-from [] (n .1) p);
+  some = λ input. (empty, nothing, some-from empty nothing input .0, (tt, refl), (tt, refl), some-from empty nothing input .1);
   line-for-line = λ input. line-for-line (lines input) nothing;
   long = λ line h. long-bad line (omega arith);
 }

@@ -52,6 +52,8 @@ pub record Bench : Type 0 where
   -- from an empty line and no system on, the transcript of the input, whatever the input
   pub prints : {line : Text} {system : System} {input printed : List ℕ}
       → New line → Nothing system → Prints line system input printed → printed ≡ transcript input
+  -- and something is printed, whatever the input: the claim is not empty
+  pub some : (input : List ℕ) → (line : Text) × (system : System) × (printed : List ℕ) × New line × Nothing system × Prints line system input printed
   -- one line for each line
   pub line-for-line : (input : List ℕ) → length (lines (transcript input)) ≡ length (lines input)
   -- any line above 16 bytes is bad
