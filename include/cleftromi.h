@@ -26,9 +26,9 @@
  * changed.  What the chip itself says no to (a write violation, an undefined
  * segment, a load that clashes) is not a refusal but an answer.
  *
- * Every number is 64 bits wide so that a host's bad number is not narrowed
- * into a good one on its way.  Section numbers below are those of the MC68451
- * handbook, April 1983.
+ * Every number but the byte that is written is 64 bits wide, so that a host's
+ * bad number is not narrowed into a good one on its way.  Section numbers below
+ * are those of the MC68451 handbook, April 1983.  For C99 and C++.
  */
 #ifndef CLEFTROMI_H
 #define CLEFTROMI_H
@@ -82,7 +82,8 @@ uint64_t cleftromi_reset(uint8_t *state, size_t bytes, uint64_t selected);
  *                        write-protected segment;
  *   CLEFTROMI_UNDEFINED  no enabled descriptor of any unit matches.
  * The last two are faults: read GSR, LSR, RDP, AC0, AC1 and AC6 for what the
- * chip noted of them. */
+ * chip noted of them, after a violation in the unit that the answer names, after
+ * an undefined access in any unit. */
 uint64_t cleftromi_access(uint8_t *state, size_t bytes, uint64_t function_code, uint64_t direction,
                           uint64_t address);
 

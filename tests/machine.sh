@@ -46,13 +46,14 @@ aarch64)
 *) stop "there is no way here to run x86-64 programs on $machine" ;;
 esac
 
-# Whether a file that is made of the code is missing or older than it.
+# Whether a file that is made of the code is missing or older than code and proofs.
 out_of_date() { # FILE
-    [ ! -f "$1" ] || [ -n "$(find "$root/crates" -name '*.rt' -newer "$1" -print -quit)" ]
+    [ ! -f "$1" ] || [ -n "$(find "$root/crates" \( -name '*.rt' -o -name '*.antt' \) -newer "$1" -print -quit)" ]
 }
 
 # Runs rt, and shows of what it says one line for each crate, or all where it fails.
 proving() { # WORDS..
+    echo "proving what has changed (all of it: 3 minutes, the crate chip the longest)" >&2
     mkdir -p "$root/target"
     (cd "$root" && rt "$@" 2>&1) | tee "$root/target/proving.log" | grep --line-buffered '^rt:' >&2
     [ "${PIPESTATUS[0]}" -eq 0 ] && return
