@@ -9,6 +9,7 @@ use lib.Dec.{eqb}
 use borrow.Author.Tests.{ne-eqb, eqb-true, eqb-false}
 use Rattle.chip.specs.declared.system.System.{System}
 use Rattle.chip.specs.Reset.{nothing}
+use Rattle.lines.specs.Ascii.{line-feed}
 use Rattle.lines.specs.Line.{meaning}
 use Rattle.lines.specs.Text.{empty, is-empty, pushed, text, held}
 use Rattle.lines.specs.Turn.{turn, lines, answers}
@@ -26,7 +27,7 @@ answered l system e a = a .1 ∙ rw (e, meaning-held l) refl
 prints-from : (l : List ℕ) {line : Text} {system : System} {input printed : List ℕ}
     → line ≡ text l → Prints line system input printed → printed ≡ answers (begun l (lines input)) system
 prints-from l e (byte {c = c} {input = input} other pushed p) =
-    prints-from (l ++ c ∷ []) (pushed .1 ∙ rw e (sym (text-snoc empty l c))) p ∙ rw (begun-snoc l c (lines input), ne-eqb c 10 other) refl
+    prints-from (l ++ c ∷ []) (pushed .1 ∙ rw e (sym (text-snoc empty l c))) p ∙ rw (begun-snoc l c (lines input), ne-eqb c line-feed other) refl
 prints-from l {system = s} e (feed {input = input} a new p) =
     rw
     (prints-from [] (new .1) p, answered l s e a, told-held (meaning l) s, begun-ended l (lines input))
@@ -48,13 +49,13 @@ some-from line system [] = go (is-empty line) refl
     go true e = ([], end {line = line} {system = system} ((tt, tt), sym e))
     go false e = (held (answer line system .text), last {line = line} {system = system} {turn = answer line system} ((tt, tt), sym e) ((tt, (tt, tt)), refl))
 some-from line system (c ∷ input) =
-    go (eqb c 10) refl (some-from empty (answer line system .system) input) (some-from (pushed line c) system input)
+    go (eqb c line-feed) refl (some-from empty (answer line system .system) input) (some-from (pushed line c) system input)
   where
-    go : (b : Bool) → eqb c 10 ≡ b → (printed : List ℕ) × Prints empty (answer line system .system) input printed
+    go : (b : Bool) → eqb c line-feed ≡ b → (printed : List ℕ) × Prints empty (answer line system .system) input printed
         → (printed : List ℕ) × Prints (pushed line c) system input printed → (printed : List ℕ) × Prints line system (c ∷ input) printed
     go true e next more =
-        rw (eqb-true c 10 e) (held (answer line system .text) ++ next .0, feed {line = line} {next = empty} {system = system} {turn = answer line system} ((tt, (tt, tt)), refl) (tt, refl) (next .1))
-    go false e next more = (more .0, byte {line = line} {next = pushed line c} {system = system} (eqb-false c 10 e) ((tt, (tt, tt)), refl) (more .1))
+        rw (eqb-true c line-feed e) (held (answer line system .text) ++ next .0, feed {line = line} {next = empty} {system = system} {turn = answer line system} ((tt, (tt, tt)), refl) (tt, refl) (next .1))
+    go false e next more = (more .0, byte {line = line} {next = pushed line c} {system = system} (eqb-false c line-feed e) ((tt, (tt, tt)), refl) (more .1))
 
 pub bench : Bench
 bench = record {

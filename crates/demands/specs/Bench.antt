@@ -8,6 +8,7 @@ use mathlib.Core.Bool.{Bool, true, false}
 use mathlib.Core.List.{List, [], _∷_, _++_}
 use lib.ListN.{length}
 use Rattle.chip.specs.declared.system.System.{System}
+use Rattle.lines.specs.Ascii.{line-feed}
 use Rattle.lines.specs.Line.{meaning}
 use Rattle.lines.specs.Text.{held}
 use Rattle.lines.specs.Turn.{lines, transcript}
@@ -40,10 +41,10 @@ Answer line system turn = Returned turn-answer.Kinds.ps turn-answer.Kinds.r turn
 -- with a line that has begun and a system, what is printed for the input that is left
 pub data Prints : Text → System → (input printed : List ℕ) → Type 0 where
   byte : {line next : Text} {system : System} {c : ℕ} {input printed : List ℕ}
-      → c ≢ 10 → Push line c next → Prints next system input printed → Prints line system (c ∷ input) printed
+      → c ≢ line-feed → Push line c next → Prints next system input printed → Prints line system (c ∷ input) printed
   feed : {line next : Text} {system : System} {turn : Turn} {input printed : List ℕ}
       → Answer line system turn → New next → Prints next (turn .system) input printed
-      → Prints line system (10 ∷ input) (held (turn .text) ++ printed)
+      → Prints line system (line-feed ∷ input) (held (turn .text) ++ printed)
   last : {line : Text} {system : System} {turn : Turn}
       → Is-empty line false → Answer line system turn → Prints line system [] (held (turn .text))
   end : {line : Text} {system : System} → Is-empty line true → Prints line system [] []

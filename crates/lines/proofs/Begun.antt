@@ -14,8 +14,9 @@ use Rattle.chip.specs.Call.{performed}
 use Rattle.chip.specs.declared.answer.Answer.{Answer}
 use Rattle.chip.specs.declared.answer.Answer.the-variants.{Refused, Done, Byte, Mapped, Violation, Undefined}
 use Rattle.chip.specs.declared.system.System.{System}
+use Rattle.lines.specs.Ascii.{ascii, byte, line-feed}
 use Rattle.lines.specs.Line.{meaning}
-use Rattle.lines.specs.Text.{digits, hex-digit, flag, printed}
+use Rattle.lines.specs.Text.{hex-digit, flag, printed}
 use Rattle.lines.specs.Turn.{told, left, longer, lines, answers}
 use Rattle.lines.specs.declared.line.Line.{Line}
 use Rattle.lines.specs.declared.line.Line.the-variants.{Called, Bad}
@@ -45,28 +46,28 @@ begun-last b (c ∷ line) = ap (longer b) (begun-last c line)
 -- no line feed among these
 abbrev plain : List ℕ → Bool
 plain [] = true
-plain (c ∷ l) = not (eqb c 10) && plain l
+plain (c ∷ l) = not (eqb c line-feed) && plain l
 
-plain-at : (l : List ℕ) → plain l ≡ true → (i : ℕ) → eqb (getD l i 0) 10 ≡ false
+plain-at : (l : List ℕ) → plain l ≡ true → (i : ℕ) → eqb (getD l i 0) line-feed ≡ false
 plain-at [] e i = refl
-plain-at (c ∷ l) e zero = go (eqb c 10) (and-eq-true-iff (not (eqb c 10)) (plain l) .0 e .0)
+plain-at (c ∷ l) e zero = go (eqb c line-feed) (and-eq-true-iff (not (eqb c line-feed)) (plain l) .0 e .0)
   where
     go : (b : Bool) → not b ≡ true → b ≡ false
     go true e = sym e
     go false e = refl
-plain-at (c ∷ l) e (suc i) = plain-at l (and-eq-true-iff (not (eqb c 10)) (plain l) .0 e .1) i
+plain-at (c ∷ l) e (suc i) = plain-at l (and-eq-true-iff (not (eqb c line-feed)) (plain l) .0 e .1) i
 
-plain-hex : (n : ℕ) → eqb (hex-digit n) 10 ≡ false
-plain-hex n = plain-at digits refl (n % 16)
+plain-hex : (n : ℕ) → eqb (hex-digit n) line-feed ≡ false
+plain-hex n = plain-at (ascii "0123456789ABCDEF") refl (n % 16)
 
-plain-flag : (b : Bool) → eqb (flag b) 10 ≡ false
+plain-flag : (b : Bool) → eqb (flag b) line-feed ≡ false
 plain-flag true = refl
 plain-flag false = refl
 
 -- bytes that are no line feed, then one, and the rest
 data Fed : List ℕ → (rest : List ℕ) → Type 0 where
-  feed : {rest : List ℕ} → Fed (10 ∷ rest) rest
-  next : {c : ℕ} {l rest : List ℕ} → eqb c 10 ≡ false → Fed l rest → Fed (c ∷ l) rest
+  feed : {rest : List ℕ} → Fed (line-feed ∷ rest) rest
+  next : {c : ℕ} {l rest : List ℕ} → eqb c line-feed ≡ false → Fed l rest → Fed (c ∷ l) rest
 
 fed-lines : {l rest : List ℕ} → Fed l rest → length (lines l) ≡ suc (length (lines rest))
 fed-lines feed = refl
@@ -80,11 +81,11 @@ fed-lines (next {c} {l} {rest} e f) = rw e (go (lines l) (fed-lines f))
 pair : (n m : ℕ) {l rest : List ℕ} → Fed l rest → Fed (hex-digit n ∷ hex-digit m ∷ l) rest
 pair n m f = next (plain-hex n) (next (plain-hex m) f)
 
-irq-last : (irq : Bool) (rest : List ℕ) → Fed (32 ∷ flag irq ∷ 10 ∷ rest) rest
+irq-last : (irq : Bool) (rest : List ℕ) → Fed (byte " " ∷ flag irq ∷ line-feed ∷ rest) rest
 irq-last irq rest = next refl (next (plain-flag irq) feed)
 
 where-last : (u d : ℕ) (win irq : Bool) (rest : List ℕ)
-    → Fed (hex-digit u ∷ 32 ∷ hex-digit (d / 16) ∷ hex-digit d ∷ 32 ∷ flag win ∷ 32 ∷ flag irq ∷ 10 ∷ rest) rest
+    → Fed (hex-digit u ∷ byte " " ∷ hex-digit (d / 16) ∷ hex-digit d ∷ byte " " ∷ flag win ∷ byte " " ∷ flag irq ∷ line-feed ∷ rest) rest
 where-last u d win irq rest =
     next (plain-hex u) (next refl (pair (d / 16) d (next refl (next (plain-flag win) (irq-last irq rest)))))
 

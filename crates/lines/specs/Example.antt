@@ -1,41 +1,26 @@
 -- The example of document 01, "The bench program".
 use Prim.Native.Nat.{ℕ}
-use mathlib.Core.List.{List, [], _∷_}
+use mathlib.Core.List.{List, _++_}
+use Rattle.lines.specs.Ascii.{ascii}
 
 abbrev pub example-input : List ℕ
 example-input =
-    -- S 1 0
-    83 ∷ 32 ∷ 49 ∷ 32 ∷ 48 ∷ 10 ∷
-    -- T 5 R 001234
-    84 ∷ 32 ∷ 53 ∷ 32 ∷ 82 ∷ 32 ∷ 48 ∷ 48 ∷ 49 ∷ 50 ∷ 51 ∷ 52 ∷ 10 ∷
-    -- G 0 2D
-    71 ∷ 32 ∷ 48 ∷ 32 ∷ 50 ∷ 68 ∷ 10 ∷
-    -- T 5 W 000100
-    84 ∷ 32 ∷ 53 ∷ 32 ∷ 87 ∷ 32 ∷ 48 ∷ 48 ∷ 48 ∷ 49 ∷ 48 ∷ 48 ∷ 10 ∷
-    -- W 0 2B 40
-    87 ∷ 32 ∷ 48 ∷ 32 ∷ 50 ∷ 66 ∷ 32 ∷ 52 ∷ 48 ∷ 10 ∷
-    -- G 0 2B
-    71 ∷ 32 ∷ 48 ∷ 32 ∷ 50 ∷ 66 ∷ 10 ∷
-    -- A 0
-    65 ∷ 32 ∷ 48 ∷ 10 ∷
-    -- T 0 x
-    84 ∷ 32 ∷ 48 ∷ 32 ∷ 120 ∷ 10 ∷ []
+    ascii "S 1 0\n"
+    ++ ascii "T 5 R 001234\n"
+    ++ ascii "G 0 2D\n"
+    ++ ascii "T 5 W 000100\n"
+    ++ ascii "W 0 2B 40\n"
+    ++ ascii "G 0 2B\n"
+    ++ ascii "A 0\n"
+    ++ ascii "T 0 x\n"
 
 abbrev pub example-output : List ℕ
 example-output =
-    -- ok 0
-    111 ∷ 107 ∷ 32 ∷ 48 ∷ 10 ∷
-    -- P 001234 0 00 0 0
-    80 ∷ 32 ∷ 48 ∷ 48 ∷ 49 ∷ 50 ∷ 51 ∷ 52 ∷ 32 ∷ 48 ∷ 32 ∷ 48 ∷ 48 ∷ 32 ∷ 48 ∷ 32 ∷ 48 ∷ 10 ∷
-    -- = 00 0
-    61 ∷ 32 ∷ 48 ∷ 48 ∷ 32 ∷ 48 ∷ 10 ∷
-    -- P 000100 0 00 0 0
-    80 ∷ 32 ∷ 48 ∷ 48 ∷ 48 ∷ 49 ∷ 48 ∷ 48 ∷ 32 ∷ 48 ∷ 32 ∷ 48 ∷ 48 ∷ 32 ∷ 48 ∷ 32 ∷ 48 ∷ 10 ∷
-    -- ok 0
-    111 ∷ 107 ∷ 32 ∷ 48 ∷ 10 ∷
-    -- = 40 0
-    61 ∷ 32 ∷ 52 ∷ 48 ∷ 32 ∷ 48 ∷ 10 ∷
-    -- no 6
-    110 ∷ 111 ∷ 32 ∷ 54 ∷ 10 ∷
-    -- bad
-    98 ∷ 97 ∷ 100 ∷ 10 ∷ []
+    ascii "ok 0\n"
+    ++ ascii "P 001234 0 00 0 0\n"
+    ++ ascii "= 00 0\n"
+    ++ ascii "P 000100 0 00 0 0\n"
+    ++ ascii "ok 0\n"
+    ++ ascii "= 40 0\n"
+    ++ ascii "no 6\n"
+    ++ ascii "bad\n"

@@ -1,3 +1,4 @@
+pub mod Ascii
 pub mod Line
 pub mod Text
 pub mod Turn

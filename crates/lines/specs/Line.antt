@@ -1,4 +1,4 @@
--- What a line of the bench means: document 01, "The bench program". A line is its bytes without the line feed, in ASCII.
+-- What a line of the bench means: document 01, "The bench program". A line is its bytes without the line feed.
 use Prim.Native.Nat.{ℕ, _+_, _*_, _-_}
 use mathlib.Core.Bool.{Bool, true, false, _&&_, _||_, cond}
 use mathlib.Core.List.{List, [], _∷_}
@@ -10,24 +10,25 @@ use Rattle.chip.specs.declared.access.Cycle.the-variants as cycle
 use Rattle.chip.specs.declared.register.Operation.the-variants as operation
 use Rattle.chip.specs.declared.reset.Selected.{Selected}
 use Rattle.chip.specs.declared.reset.Selected.the-variants as selected
+use Rattle.lines.specs.Ascii.{ascii, byte}
 use Rattle.lines.specs.declared.line.Line.{Line}
 use Rattle.lines.specs.declared.line.Line.the-variants.{Called, Bad}
 
 -- a decimal digit, and a hex digit in capitals
 abbrev pub decimal : (c : ℕ) → Bool
-decimal c = leb 48 c && leb c 57
+decimal c = leb (byte "0") c && leb c (byte "9")
 
 abbrev pub hex : (c : ℕ) → Bool
-hex c = decimal c || (leb 65 c && leb c 70)
+hex c = decimal c || (leb (byte "A") c && leb c (byte "F"))
 
--- The forms of a line are written as 01 writes them: n a decimal digit, m one or `-`, h a hex digit, r `R` or `W`; any other byte
--- stands for itself
+-- A form has a letter for each byte of its line: n for a decimal digit, m for one or `-`, h for a hex digit, r for `R` or `W`; any
+-- other byte stands for itself
 abbrev pub fits-at : (form c : ℕ) → Bool
 fits-at form c =
-    cond (eqb form 110) (decimal c)
-    (cond (eqb form 109) (decimal c || eqb c 45)
-    (cond (eqb form 104) (hex c)
-    (cond (eqb form 114) (eqb c 82 || eqb c 87)
+    cond (eqb form (byte "n")) (decimal c)
+    (cond (eqb form (byte "m")) (decimal c || eqb c (byte "-"))
+    (cond (eqb form (byte "h")) (hex c)
+    (cond (eqb form (byte "r")) (eqb c (byte "R") || eqb c (byte "W"))
     (eqb c form))))
 
 -- a line has a form if it is as long and each byte fits
@@ -37,25 +38,25 @@ fits [] (c ∷ line) = false
 fits (f ∷ form) [] = false
 fits (f ∷ form) (c ∷ line) = fits-at f c && fits form line
 
--- "S n m", "W n hh hh", "G n hh", "T h r hhhhhh", "A n"
+-- "S n m", "W m aa vv", "G m aa", "T f r aaaaaa", "A m"
 abbrev pub start-form : List ℕ
-start-form = 83 ∷ 32 ∷ 110 ∷ 32 ∷ 109 ∷ []
+start-form = ascii "S n m"
 
 abbrev pub write-form : List ℕ
-write-form = 87 ∷ 32 ∷ 110 ∷ 32 ∷ 104 ∷ 104 ∷ 32 ∷ 104 ∷ 104 ∷ []
+write-form = ascii "W n hh hh"
 
 abbrev pub read-form : List ℕ
-read-form = 71 ∷ 32 ∷ 110 ∷ 32 ∷ 104 ∷ 104 ∷ []
+read-form = ascii "G n hh"
 
 abbrev pub access-form : List ℕ
-access-form = 84 ∷ 32 ∷ 104 ∷ 32 ∷ 114 ∷ 32 ∷ 104 ∷ 104 ∷ 104 ∷ 104 ∷ 104 ∷ 104 ∷ []
+access-form = ascii "T h r hhhhhh"
 
 abbrev pub acknowledge-form : List ℕ
-acknowledge-form = 65 ∷ 32 ∷ 110 ∷ []
+acknowledge-form = ascii "A n"
 
 -- the value of a digit; of the digit at place i, and of two hex digits from there on
 abbrev pub digit : (c : ℕ) → ℕ
-digit c = cond (ltb c 65) (c - 48) (c - 55)
+digit c = cond (ltb c (byte "A")) (c - byte "0") (c - byte "A" + 10)
 
 abbrev pub digit-at : (line : List ℕ) (i : ℕ) → ℕ
 digit-at line i = digit (getD line i 0)
@@ -67,10 +68,10 @@ abbrev pub address-at : (line : List ℕ) (i : ℕ) → ℕ
 address-at line i = 65536 * byte-at line i + 256 * byte-at line (i + 2) + byte-at line (i + 4)
 
 abbrev pub unit : (c : ℕ) → Selected
-unit c = cond (eqb c 45) selected.Nobody (selected.Unit (digit c))
+unit c = cond (eqb c (byte "-")) selected.Nobody (selected.Unit (digit c))
 
 abbrev pub direction : (c : ℕ) → Cycle
-direction c = cond (eqb c 82) cycle.Read cycle.Write
+direction c = cond (eqb c (byte "R")) cycle.Read cycle.Write
 
 -- what a line of each form asks for
 abbrev pub start-of : (line : List ℕ) → Line

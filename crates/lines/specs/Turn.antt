@@ -6,6 +6,7 @@ use lib.Dec.{eqb}
 use Rattle.chip.specs.Call.{performed}
 use Rattle.chip.specs.Reset.{nothing}
 use Rattle.chip.specs.declared.system.System.{System}
+use Rattle.lines.specs.Ascii.{line-feed}
 use Rattle.lines.specs.Line.{meaning}
 use Rattle.lines.specs.Text.{text, printed, bad}
 use Rattle.lines.specs.declared.line.Line.{Line}
@@ -31,7 +32,7 @@ longer c (l ∷ ls) = (c ∷ l) ∷ ls
 
 abbrev pub lines : (input : List ℕ) → List (List ℕ)
 lines [] = []
-lines (c ∷ input) = cond (eqb c 10) ([] ∷ lines input) (longer c (lines input))
+lines (c ∷ input) = cond (eqb c line-feed) ([] ∷ lines input) (longer c (lines input))
 
 -- one line is printed for each
 abbrev pub answers : List (List ℕ) → System → List ℕ

@@ -62,7 +62,7 @@ fn digit(c: u8) -> u64
     if c < b'A' {
         return (c - b'0') as u64;
     }
-    (c - 55) as u64
+    (c - b'A') as u64 + 10
 }
 
 fn byte_at(line: &[u8], i: usize) -> u64
