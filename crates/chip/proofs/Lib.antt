@@ -9,4 +9,5 @@ pub mod Changes
 pub mod Apart
 pub mod Marked
 pub mod Loading
+pub mod Events
 pub mod Cases

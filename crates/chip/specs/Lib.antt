@@ -7,6 +7,7 @@ pub mod Transfer
 pub mod Prepare
 pub mod Load
 pub mod Translation
+pub mod Event
 pub mod Acknowledge
 pub mod Register
 pub mod Call

@@ -21,12 +21,16 @@ abbrev pub blame : Found → Unit → Unit
 blame (At i) u = report LD (i % 32) u
 blame Nowhere u = report NO none u
 
--- a collision of d, about to be loaded into place i: some page and some number exist that d and an enabled
--- descriptor at another place both match
-unfoldable pub Collision : Descriptor → (i : ℕ) → System → Type 0
-Collision d i s =
-    (page : ℕ) × (number : ℕ) × (k : ℕ) × (page < 2 ^ 16) × (number < 2 ^ 8) × (k < 32 * present s) × (k ≢ i)
+-- d, about to be loaded into place i, collides with the enabled descriptor at another place k: some page and some number exist
+-- that both match
+unfoldable pub Collides-with : Descriptor → (i k : ℕ) → System → Type 0
+Collides-with d i k s =
+    (page : ℕ) × (number : ℕ) × (page < 2 ^ 16) × (number < 2 ^ 8) × (k ≢ i)
     × (matches d page number ≡ true) × (matches (descriptor s k) page number ≡ true)
+
+-- a collision: with a descriptor in some unit
+abbrev pub Collision : Descriptor → (i : ℕ) → System → Type 0
+Collision d i s = (k : ℕ) × (k < 32 * present s) × Collides-with d i k s
 
 -- the load is refused: d asks to be enabled, and some enabled descriptor collides with it
 abbrev pub collision : Descriptor → System → Bool

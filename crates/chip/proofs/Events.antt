@@ -1,0 +1,240 @@
+-- What each event leaves in every unit is what the table says (specs/Event.antt).
+--     access-leaves                           the faults, by what a bus access answers
+--     granted-leaves, refused-leaves          a load, and of a refused one where each unit's lowest collision is
+--     translation-leaves                      a direct translation
+-- Assumes nothing.
+use Prim.Native.Nat.{ℕ, _+_, _*_, _-_, _/_, _%_, _<_}
+use mathlib.Core.Path.{_≡_, refl, sym, ap, _∙_}
+use mathlib.Core.Logic.{_≢_}
+use mathlib.Core.Bool.{Bool, true, false, not, _&&_, cond, false≢true, and-eq-true-iff}
+use mathlib.Core.List.{List, [], _∷_}
+use native.Mathlib.Omega.{arith}
+use lib.Dec.{eqb}
+use lib.ListN.{length}
+use borrow.Author.Tests.{eqb-true, eqb-false}
+use Rattle.descriptors.specs.Descriptor.{enabled, protected, collides, disable, physical-page}
+use Rattle.descriptors.specs.declared.descriptor.Descriptor.{Descriptor}
+use Rattle.registers.specs.Unit.{NO, USA, WV, none, report, write-ac, latch, translated, with-rw, word, ac, segment, for-load, for-translation}
+use Rattle.registers.specs.Shared.{entry}
+use Rattle.registers.specs.declared.unit.Unit.{Unit}
+use Rattle.chip.specs.System.{present, unit, descriptor, pointed, with-units, with-shared, with-descriptor, with-unit, in-all}
+use Rattle.chip.specs.Search.{found, in-system, in-unit, matching}
+use Rattle.chip.specs.Answer.{violating, undefined as undefined-kind, values, refused, granted}
+use Rattle.chip.specs.Access.{writes, fault, violation, undefined, match-at, translate-at, translate}
+use Rattle.chip.specs.Prepare.{inconsistent, send, send-all, prepare}
+use Rattle.chip.specs.Load.{blame, Collides-with, collision, load-at, load}
+use Rattle.chip.specs.Translation.{result-at, direct-translation}
+use Rattle.chip.specs.Call.{performed}
+use Rattle.chip.specs.Event.{status, leaves, Lowest}
+use Rattle.chip.specs.Event as event
+use Rattle.chip.specs.declared.system.System.{System}
+use Rattle.chip.specs.declared.access.Cycle.{Cycle}
+use Rattle.chip.specs.declared.search.Found.{Found}
+use Rattle.chip.specs.declared.search.Found.the-variants.{At, Nowhere}
+use Rattle.chip.specs.declared.answer.Reading.{Reading}
+use Rattle.chip.specs.declared.answer.Outcome.{Outcome}
+use Rattle.chip.specs.declared.call.Call.the-variants as call
+use Rattle.chip.proofs.Checked.{either, outcome-law}
+use Rattle.chip.proofs.Each.{length-each}
+use Rattle.chip.proofs.First.{first-found, first-missed}
+use Rattle.chip.proofs.Parts.{each-unit, unit-there, unit-elsewhere}
+use Rattle.chip.proofs.Once.{matching-found}
+use Rattle.chip.proofs.Changes.{prepare-places}
+use Rattle.chip.proofs.Loading.{prepared, load-is, collides-law}
+
+abbrev Six : System → Type 0
+Six s = length (s .units) ≡ 6
+
+-- what was done to all units was done to unit k
+done : (f : Unit → Unit) (s : System) → Six s → (k : ℕ) → k < present s → unit (in-all f s) k ≡ f (unit s k)
+done f s us k h = each-unit s (λ m. f) k h (omega arith)
+
+six : (f : Unit → Unit) (s : System) → Six s → Six (in-all f s)
+unfolding with-units
+six f s us = length-each (present s) (λ m. f) (s .units) ∙ us
+
+-- and then unit m alone was changed
+one-changed : (f : Unit → Unit) (s : System) → Six s → (m k : ℕ) → m < present s
+    → status (unit (with-unit s m (f (unit s m))) k) ≡ cond (eqb k m) (status (f (unit s k))) (status (unit s k))
+one-changed f s us m k h = go (eqb k m) refl
+  where
+    go : (b : Bool) → eqb k m ≡ b → status (unit (with-unit s m (f (unit s m))) k) ≡ cond b (status (f (unit s k))) (status (unit s k))
+    go true q = rw (eqb-true k m q, unit-there s m (f (unit s m)) (omega arith)) refl
+    go false q = rw (unit-elsewhere s m k (f (unit s m)) (eqb-false k m q)) refl
+
+-- ---- 4.5.3: the faults
+
+fault-unit : (cycle : Cycle) (s : System) → Six s → (k : ℕ) → k < present s → unit (fault cycle s) k ≡ with-rw (unit s k) (not (writes cycle))
+unfolding fault with-shared
+fault-unit cycle s us k h = done (λ u. with-rw u (not (writes cycle))) s us k h
+
+fault-six : (cycle : Cycle) (s : System) → Six s → Six (fault cycle s)
+unfolding fault with-shared
+fault-six cycle s us = six _ s us
+
+violation-leaves : (cycle : Cycle) (page number m n : ℕ) (s : System) → Six s → m < present s → writes cycle ≡ true
+    → (k : ℕ) → k < present s → status (unit (violation cycle page number m n s) k) ≡ leaves (event.violation m n) k (unit s k .rw)
+unfolding violation fault with-shared with-units
+violation-leaves cycle page number m n s us h w k l =
+    one-changed (λ u. report WV n (latch page number u)) (in-all (report NO none) (fault cycle s)) (six _ (fault cycle s) (fault-six cycle s us)) m k h
+    ∙ rw (done (report NO none) (fault cycle s) (fault-six cycle s us) k l, fault-unit cycle s us k l, w) refl
+
+undefined-leaves : (cycle : Cycle) (page number : ℕ) (s : System) → Six s
+    → (k : ℕ) → k < present s → status (unit (undefined cycle page number s) k) ≡ leaves (event.undefined (not (writes cycle))) k (unit s k .rw)
+unfolding undefined fault with-shared with-units
+undefined-leaves cycle page number s us k h =
+    let latched = done (latch page number) (fault cycle s) (fault-six cycle s us) k h in
+    ap status (done (report USA none) (in-all (latch page number) (fault cycle s)) (six _ (fault cycle s) (fault-six cycle s us)) k h)
+    ∙ rw (latched, fault-unit cycle s us k h) refl
+
+-- a bus access, by what it answers
+pub record Faults (cycle : Cycle) (s : System) (o : Outcome) : Type 0 where
+  pub violating : values (o .answer) .kind ≡ violating
+      → (k : ℕ) → k < present s
+      → status (unit (o .system) k) ≡ leaves (event.violation (values (o .answer) .unit) (values (o .answer) .descriptor)) k (unit s k .rw)
+  pub undefined : values (o .answer) .kind ≡ undefined-kind
+      → (k : ℕ) → k < present s → status (unit (o .system) k) ≡ leaves (event.undefined (not (writes cycle))) k (unit s k .rw)
+
+pub access-leaves : (code : ℕ) (cycle : Cycle) (address : ℕ) (s : System) → Six s → Faults cycle s (performed (call.Access code cycle address) s)
+unfolding translate translate-at match-at refused granted
+access-leaves code cycle address s us =
+    outcome-law (Faults cycle s) (call.Access code cycle address) s (λ r. record { violating = λ e. absurd (omega arith); undefined = λ e. absurd (omega arith) })
+    (λ n. go (matching page number s) refl)
+  where
+    page : ℕ
+    page = address / 256
+
+    number : ℕ
+    number = entry (s .shared) code
+
+    go : (f : Found) → matching page number s ≡ f → Faults cycle s (translate-at f cycle page number (address % 256) s)
+    go (At i) e =
+        either (Faults cycle s) (writes cycle && protected (descriptor s i))
+        (λ w. record {
+          violating = λ v.
+              violation-leaves cycle page number (i / 32) (i % 32) s us (omega (arith, matching-found s page number i e .high))
+              (and-eq-true-iff (writes cycle) (protected (descriptor s i)) .0 w .0);
+          undefined = λ v. absurd (omega arith);
+        })
+        (λ w. record { violating = λ v. absurd (omega arith); undefined = λ v. absurd (omega arith) })
+    go Nowhere e = record { violating = λ v. absurd (omega arith); undefined = λ v. undefined-leaves cycle page number s us }
+
+-- ---- 4.6.3: to make the accumulators consistent leaves RW
+
+sent-rw : (is : List ℕ) (m : ℕ) (s : System) → Six s → (k : ℕ) → k < present s → unit (send-all is m s) k .rw ≡ unit s k .rw
+unfolding send with-units
+sent-rw [] m s us k h = refl
+sent-rw (i ∷ is) m s us k h =
+    sent-rw is m (send i m s) (six _ s us) k h ∙ ap (λ (u : Unit). u .rw) (done (write-ac i (ac (unit s m) i)) s us k h)
+
+sent-six : (is : List ℕ) (m : ℕ) (s : System) → Six s → Six (send-all is m s)
+unfolding send
+sent-six [] m s us = us
+sent-six (i ∷ is) m s us = sent-six is m (send i m s) (six _ s us)
+
+prepared-six : (is : List ℕ) (m : ℕ) (s : System) → Six s → Six (prepare is m s)
+unfolding prepare
+prepared-six is m s us = either Six (inconsistent is s) (λ e. sent-six is m s us) (λ e. us)
+
+prepared-rw : (is : List ℕ) (m : ℕ) (s : System) → Six s → (k : ℕ) → k < present s → unit (prepare is m s) k .rw ≡ unit s k .rw
+unfolding prepare
+prepared-rw is m s us k h = either (λ (t : System). unit t k .rw ≡ unit s k .rw) (inconsistent is s) (λ e. sent-rw is m s us k h) (λ e. refl)
+
+-- ---- 4.6.3.2: a load
+
+blamed : (k : ℕ) (f : Found) (u : Unit) → status (blame f u) ≡ leaves (event.load-refused (λ j. f)) k (u .rw)
+blamed k (At i) u = refl
+blamed k Nowhere u = refl
+
+module _ (d : Descriptor) (i : ℕ) (s : System) where
+  abbrev off : System
+  off = with-descriptor s i (disable (descriptor s i))
+
+  -- where each unit's lowest collision is
+  abbrev lowest : ℕ → Found
+  lowest k = in-unit (collides d) k off
+
+  load-at-leaves : Six s → (k : ℕ) → k < present s → let r = load-at d i s in
+      (r .byte ≢ 0xFF → status (unit (r .system) k) ≡ leaves event.load-granted k (unit s k .rw))
+      × (r .byte ≡ 0xFF → (enabled d ≡ true) × (status (unit (r .system) k) ≡ leaves (event.load-refused lowest) k (unit s k .rw)))
+  unfolding load-at with-descriptor
+  load-at-leaves us k h =
+      either
+      (λ (r : Reading). (r .byte ≢ 0xFF → status (unit (r .system) k) ≡ leaves event.load-granted k (unit s k .rw))
+      × (r .byte ≡ 0xFF → (enabled d ≡ true) × (status (unit (r .system) k) ≡ leaves (event.load-refused lowest) k (unit s k .rw))))
+      (collision d off)
+      (λ c. (λ n. absurd (n refl), λ e. (and-eq-true-iff (enabled d) (found (in-system (collides d) off)) .0 c .0, ap status (each-unit off _ k h (omega arith)) ∙ blamed k (lowest k) (unit s k))))
+      (λ c. (λ n. ap status (done (report NO none) (with-descriptor off i d) us k h), λ e. absurd (omega arith)))
+
+  lowest-law : i < length (s .descriptors) → enabled d ≡ true → (k : ℕ) → Lowest d i k s (lowest k)
+  lowest-law there asks k = go (lowest k) refl
+    where
+      none-there : (j : ℕ) → collides d (descriptor off j) ≡ false → Collides-with d i j s → ⊥
+      none-there j e c = false≢true (sym e ∙ collides-law d i s there asks j .1 c)
+
+      go : (f : Found) → lowest k ≡ f → Lowest d i k s f
+      go (At j) e =
+          let f = first-found (λ j. collides d (descriptor off j)) (32 * k) 32 j e in
+          let low = f .low in
+          let high = f .high in
+          (j - 32 * k, omega arith, omega arith, collides-law d i s there asks j .0 (f .here), λ l h. none-there (32 * k + l) (f .before (32 * k + l) (omega arith) (omega arith)))
+      go Nowhere e = λ n h.
+          none-there (32 * k + n) (first-missed (λ j. collides d (descriptor off j)) (32 * k) 32 e (32 * k + n) (omega arith) (omega arith))
+
+-- where the collisions are depends on the descriptors alone
+lowest-same : (d : Descriptor) (i k : ℕ) (s t : System) → t .descriptors ≡ s .descriptors → (f : Found) → Lowest d i k t f → Lowest d i k s f
+unfolding Collides-with
+lowest-same d i k s t e (At j) l = rw e at l
+lowest-same d i k s t e Nowhere l = rw e at l
+
+-- ---- 4.6.3.3: a direct translation
+
+result-leaves : (f : Found) (page : ℕ) (s : System) → Six s → ((i : ℕ) → f ≡ At i → i / 32 < present s)
+    → (k : ℕ) → k < present s → status (unit (result-at f page s .system) k) ≡ leaves (event.translation f) k (unit s k .rw)
+unfolding result-at with-units
+result-leaves (At i) page s us there k h =
+    one-changed (translated (physical-page (descriptor s i) page) (i % 32)) (in-all (report NO none) s) (six _ s us) (i / 32) k (there i refl)
+    ∙ rw (done (report NO none) s us k h) refl
+result-leaves Nowhere page s us there k h = ap status (done (report NO none) s us k h)
+
+-- ---- both, by unit m's accumulator
+
+module _ (m : ℕ) (s : System) (h : m < present s) (us : length (s .units) ≡ 6) where
+  module _ (k : ℕ) (l : k < present s) where
+    loads : let r = load m s in
+        (r .byte ≢ 0xFF → status (unit (r .system) k) ≡ leaves event.load-granted k (unit s k .rw))
+        × (r .byte ≡ 0xFF → (enabled (segment (unit s m)) ≡ true)
+        × (status (unit (r .system) k) ≡ leaves (event.load-refused (lowest (segment (unit s m)) (pointed m s) (prepare for-load m s))) k (unit s k .rw)))
+    loads =
+        rw (load-is m s h us, ← prepared-rw for-load m s us k l)
+        (load-at-leaves (segment (unit s m)) (pointed m s) (prepare for-load m s) (prepared-six for-load m s us) k (rw (prepare-places for-load m s .1) l))
+
+  pub granted-leaves : load m s .byte ≢ 0xFF
+      → (k : ℕ) → k < present s → status (unit (load m s .system) k) ≡ leaves event.load-granted k (unit s k .rw)
+  granted-leaves n k l = loads k l .0 n
+
+  pub refused-leaves : length (s .descriptors) ≡ 192 → load m s .byte ≡ 0xFF
+      → (lowest : ℕ → Found) × ((k : ℕ) → Lowest (segment (unit s m)) (pointed m s) k s (lowest k))
+      × ((k : ℕ) → k < present s → status (unit (load m s .system) k) ≡ leaves (event.load-refused lowest) k (unit s k .rw))
+  refused-leaves ds e =
+      let p = prepare for-load m s in
+      let same = prepare-places for-load m s .0 in (
+        lowest (segment (unit s m)) (pointed m s) p,
+        λ k. lowest-same (segment (unit s m)) (pointed m s) k s p same (lowest (segment (unit s m)) (pointed m s) p k) (lowest-law (segment (unit s m)) (pointed m s) p (rw same (omega arith)) (loads m h .1 e .0) k),
+        λ k l. loads k l .1 e .1,
+      )
+
+  pub translation-leaves : (k : ℕ) → k < present s
+      → status (unit (direct-translation m s .system) k) ≡ leaves (event.translation (matching (word (unit s m) 0) (ac (unit s m) 6) s)) k (unit s k .rw)
+  unfolding direct-translation
+  translation-leaves k l =
+      let t = prepare for-translation m s in
+      let same = prepare-places for-translation m s in
+      let values = prepared for-translation m s h us .1 in
+      let f = matching (word (unit s m) 0) (ac (unit s m) 6) s in
+      let e : matching (word (unit t m) 0) (ac (unit t m) 6) t ≡ f = rw (values 0, values 1, values 6, same .0, same .1) refl in
+      let there : (i : ℕ) → f ≡ At i → i / 32 < present t =
+      λ i q. rw (same .1) (omega (arith, matching-found s (word (unit s m) 0) (ac (unit s m) 6) i q .high)) in
+      ap (λ (f : Found). status (unit (result-at f (word (unit t m) 0) t .system) k)) e
+      ∙ result-leaves f (word (unit t m) 0) t (prepared-six for-translation m s us) there k (rw (same .1) l)
+      ∙ ap (leaves (event.translation f) k) (prepared-rw for-translation m s us k l)
