@@ -25,14 +25,10 @@ use Rattle.chip.proofs.Each.{each-at, each-past, length-each}
 use Rattle.descriptors.specs.declared.descriptor.Descriptor.{Descriptor}
 use Rattle.registers.specs.declared.unit.Unit.{Unit}
 use Rattle.chip.specs.declared.system.System.{System}
-use Rattle.block.specs.Layout.{size, unit-place, descriptor-place, nine, rdp-of, byte-of, form, written}
+use Rattle.block.specs.Layout.{Bytes, size, unit-place, descriptor-place, nine, rdp-of, byte-of, form, written}
 use Rattle.block.specs.Layout.{unit-of, descriptor-of, shared-of, system-of, read}
 use Rattle.block.specs.Clean.{Clean-descriptor, Clean-unit, Clean-shared, Clean}
 use Rattle.block.proofs.Round.{length-form, system-back}
-
--- bytes, as a slice of u8 has them
-abbrev pub Bytes : List ℕ → Type 0
-Bytes b = (i : ℕ) → getD b i 0 < 2 ^ 8
 
 bytes-drop : (n : ℕ) (b : List ℕ) → Bytes b → Bytes (drop n b)
 bytes-drop n b h i = rw getD-drop (h (n + i))

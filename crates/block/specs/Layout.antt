@@ -1,5 +1,5 @@
 -- The block that a host lends: where each register stands (docs/LAYOUTS.md). A word has its low byte first.
-use Prim.Native.Nat.{ℕ, zero, suc, _+_, _*_, _-_, _/_, _%_, min}
+use Prim.Native.Nat.{ℕ, zero, suc, _+_, _*_, _-_, _/_, _%_, _^_, _<_, min}
 use mathlib.Core.Bool.{Bool, cond}
 use mathlib.Core.List.{List, [], _∷_, _++_}
 use lib.Dec.{ltb}
@@ -15,6 +15,10 @@ use Rattle.registers.specs.declared.unit.Byte.{Byte}
 use Rattle.registers.specs.declared.unit.Unit.{Unit}
 use Rattle.registers.specs.declared.shared.Shared.{Shared}
 use Rattle.chip.specs.declared.system.System.{System}
+
+-- bytes, as the type of the lent block has them: `&mut [u8]`
+abbrev pub Bytes : (block : List ℕ) → Type 0
+Bytes b = (i : ℕ) → getD b i 0 < 2 ^ 8
 
 -- how many bytes a host lends
 abbrev pub size : ℕ

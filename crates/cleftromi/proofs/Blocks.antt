@@ -1,5 +1,6 @@
 -- What a call leaves in the block.
 --     Holds t b          the block b is long enough, reads as t, and is t's one written form
+--     form-holds         the written form of a clean system does, whatever follows it
 --     granted-holds      a granted call that leaves a clean system: the block holds it
 --     granted-reads      so of any bytes: the block reads as the system that the call left
 --     refused-stays      a refused one: the block is as it was
@@ -17,10 +18,10 @@ use Rattle.chip.specs.Answer.{values}
 use Rattle.chip.specs.Call.{performed}
 use Rattle.chip.specs.declared.system.System.{System}
 use Rattle.chip.specs.declared.call.Call.{Call}
-use Rattle.block.specs.Layout.{size, short, form, read, written}
+use Rattle.block.specs.Layout.{Bytes, size, short, form, read, written}
 use Rattle.block.specs.Clean.{Clean}
 use Rattle.block.proofs.Round.{length-form, system-back}
-use Rattle.block.proofs.Tidy.{Bytes, read-clean}
+use Rattle.block.proofs.Tidy.{read-clean}
 use Rattle.block.proofs.Kept.{bus, performed-clean}
 use Rattle.cleftromi.specs.Interface.{after}
 
@@ -29,7 +30,7 @@ pub record Holds (t : System) (b : List ℕ) : Type 0 where
   pub reads : read b ≡ t
   pub form : written b t ≡ b
 
-form-holds : (t : System) (rest : List ℕ) → Clean t → Holds t (form t ++ rest)
+pub form-holds : (t : System) (rest : List ℕ) → Clean t → Holds t (form t ++ rest)
 unfolding written
 form-holds t rest c =
     let l = length-form t (c .shared .entries) rest in

@@ -2,24 +2,14 @@
 --     fields           no field touches another: each is read back from its own bits, as the C header reads it
 --     refusal-back     the refusal, whatever the other values are
 -- That the values of every call fit their fields is `performed-fit` in `block`. Assumes nothing.
-use Prim.Native.Nat.{ℕ, _/_, _%_, _^_, _<_}
+use Prim.Native.Nat.{_^_, _<_}
 use mathlib.Core.Path.{_≡_}
 use mathlib.Core.Bool.{Bool}
 use native.Mathlib.Omega.{arith}
-use Rattle.registers.specs.Unit.{flag}
 use Rattle.chip.specs.declared.answer.Values.{Values}
 use Rattle.block.proofs.Fit.{Fit, small}
 use Rattle.cleftromi.specs.Interface.{number-of}
-
-pub record Fields (v : Values) (asserted : Bool) (a : ℕ) : Type 0 where
-  pub refusal : a % 2 ^ 8 ≡ v .number
-  pub kind : a / 2 ^ 8 % 2 ^ 4 ≡ v .kind
-  pub irq : a / 2 ^ 12 % 2 ≡ flag asserted
-  pub win : a / 2 ^ 13 % 2 ≡ flag (v .win)
-  pub unit : a / 2 ^ 16 % 2 ^ 3 ≡ v .unit
-  pub descriptor : a / 2 ^ 19 % 2 ^ 5 ≡ v .descriptor
-  pub byte : a / 2 ^ 24 % 2 ^ 8 ≡ v .byte
-  pub address : a / 2 ^ 32 ≡ v .address
+use Rattle.cleftromi.specs.Fields.{refusal, Fields}
 
 pub fields : (v : Values) (asserted : Bool) → Fit v → Fields v asserted (number-of v asserted)
 unfolding number-of
@@ -43,6 +33,6 @@ fields v asserted f =
       address = omega arith;
     }
 
-pub refusal-back : (v : Values) (asserted : Bool) → v .number < 2 ^ 8 → number-of v asserted % 2 ^ 8 ≡ v .number
+pub refusal-back : (v : Values) (asserted : Bool) → v .number < 2 ^ 8 → refusal (number-of v asserted) ≡ v .number
 unfolding number-of
 refusal-back v asserted n = omega arith
