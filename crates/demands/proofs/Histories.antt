@@ -4,11 +4,13 @@
 --     reached-good   in every reached block
 -- Assumes nothing.
 use Prim.Native.Nat.{ℕ, _<_, _^_}
-use mathlib.Core.Path.{_≡_, refl, sym, _∙_}
+use mathlib.Core.Path.{_≡_, refl, sym, ap, _∙_}
 use mathlib.Core.Bool.{Bool, true, false, cond}
-use mathlib.Core.List.{List}
+use mathlib.Core.List.{List, _++_}
 use native.Mathlib.Omega.{arith}
 use lib.Dec.{eqb, lit<}
+use lib.ListN.{take, drop, take-append-drop}
+use lib.Seq.{take-at}
 use borrow.Author.Tests.{eqb-true, eqb-false}
 use Rattle.chip.specs.Answer.{number, values, refused, granted}
 use Rattle.chip.specs.Reset.{reset}
@@ -25,13 +27,15 @@ use Rattle.chip.proofs.Counts.{well-counted}
 use Rattle.chip.proofs.Once.{Apart}
 use Rattle.chip.proofs.Apart.{fresh-apart, performed-apart}
 use Rattle.chip.proofs.Marked.{Agreed, fresh-agreed, performed-agreed}
-use Rattle.block.specs.Layout.{short, read, written}
+use Rattle.block.specs.Layout.{size, short, form, read, written}
 use Rattle.block.specs.Clean.{Clean}
+use Rattle.block.proofs.Round.{length-form}
 use Rattle.block.proofs.Kept.{bus, fresh-clean, performed-clean}
 use Rattle.cleftromi.specs.Interface.{selected-by, number-of, answer, after}
 use Rattle.cleftromi.proofs.Fields.{refusal-back}
-use Rattle.cleftromi.proofs.Blocks.{Holds, granted-holds, refused-stays}
-use Rattle.demands.specs.Histories.{refusal, Reached}
+use Rattle.cleftromi.proofs.Blocks.{Holds, form-holds, granted-holds, refused-stays}
+use Rattle.cleftromi.specs.Fields.{refusal}
+use Rattle.demands.specs.Histories.{Reached}
 use Rattle.demands.specs.Histories as histories
 use Rattle.demands.proofs.Calls.{Made, start-made, reset-made, any-made}
 
@@ -115,6 +119,19 @@ followed c {b} g m = rw (m .left) (go (eqb (values (performed c (read b) .answer
         holds-good _ (after c b) s (granted-holds c b (s .clean) (g .long) (eqb-true _ _ q))
     go false q = rw (refused-stays c b (eqb-false _ _ q) (g .long)) g
 
+-- the first 4,096 bytes are the state, whatever follows them
+front : (b : List ℕ) → Good b → take size b ≡ form (read b)
+unfolding written
+front b g =
+    let l = length-form (read b) (g .invariants .clean .shared .entries) (drop size b) in
+    ap (take size) (sym (rw (g .long) at (g .form))) ∙ take-at (form (read b)) (drop size b) size l
+
+lent : (b c : List ℕ) → Good b → take size c ≡ take size b → Good c
+lent b c g e =
+    let k = g .invariants in
+    let split : form (read b) ++ drop size c ≡ c = ap (λ (xs : List ℕ). xs ++ drop size c) (sym (e ∙ front b g)) ∙ take-append-drop size c in
+    rw split at (holds-good (read b) (form (read b) ++ drop size c) k (form-holds (read b) (drop size c) (k .clean)))
+
 pub reached-good : {b : List ℕ} → Reached b → Good b
 unfolding performed reset
 reached-good (histories.started {units} {selected} {before} k granted) =
@@ -124,3 +141,4 @@ reached-good (histories.was-reset {selected} {before} k granted) =
 reached-good (histories.called r k) =
     let m = any-made k in
     followed (m .0) (reached-good r) (m .1)
+reached-good (histories.lent-anew r e) = lent _ _ (reached-good r) e

@@ -3,6 +3,7 @@ pub mod Calls
 pub mod Histories
 pub mod Refusals
 pub mod Totality
+pub mod Stated
 pub mod Loads
 pub mod Neighbours
 pub mod Bench

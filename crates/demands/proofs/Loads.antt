@@ -1,4 +1,4 @@
--- Demand 3, in every reached block. Assumes nothing.
+-- Demand 3: one match in every reached block, and what a load does in any block of bytes. Assumes nothing.
 use Prim.Native.Nat.{ℕ, _/_, _%_, _<_, _^_}
 use mathlib.Core.Path.{_≡_, refl, sym, ap, subst, _∙_}
 use mathlib.Core.Logic.{_≢_}
@@ -17,6 +17,7 @@ use Rattle.chip.specs.Search.{matching}
 use Rattle.chip.specs.Answer.{values, refused, granted, checked, miscounted, undefined}
 use Rattle.chip.specs.Access.{writes, match-at, translate-at, translate}
 use Rattle.chip.specs.Load.{load}
+use Rattle.chip.specs.Translation.{direct-translation}
 use Rattle.chip.specs.Register.{register-at, read as read-register, operate}
 use Rattle.chip.specs.Call.{performed}
 use Rattle.chip.specs.declared.system.System.{System}
@@ -29,61 +30,74 @@ use Rattle.chip.specs.declared.answer.Refusal.the-variants as refusals
 use Rattle.chip.specs.declared.answer.Answer.{Answer}
 use Rattle.chip.specs.declared.answer.Answer.the-variants.{Byte}
 use Rattle.chip.specs.declared.answer.Outcome.{Outcome}
+use Rattle.chip.specs.declared.answer.Reading.{Reading}
 use Rattle.chip.specs.declared.call.Call.{Call}
 use Rattle.chip.specs.declared.call.Call.the-variants as call
 use Rattle.chip.proofs.Counts.{counted-present}
 use Rattle.chip.proofs.Checked.{refusal-told, none-of, checks, unrefused, as-checked, outcome-law}
 use Rattle.chip.proofs.Once.{at-most-one}
 use Rattle.chip.proofs.Loading.{load-refused, load-granted, load-shared, load-harmless}
-use Rattle.block.specs.Layout.{read}
-use Rattle.block.proofs.Fit.{small, performed-fit}
+use Rattle.block.specs.Layout.{Bytes, short, read}
+use Rattle.block.specs.Clean.{Clean}
+use Rattle.block.proofs.Tidy.{read-clean}
+use Rattle.block.proofs.Fit.{small}
 use Rattle.block.proofs.Kept.{performed-clean}
-use Rattle.cleftromi.specs.Interface.{cycle-by, number-of, answer, after}
-use Rattle.cleftromi.proofs.Fields.{Fields, fields}
-use Rattle.cleftromi.proofs.Blocks.{granted-holds, refused-stays}
-use Rattle.demands.specs.Histories as histories
-use Rattle.demands.specs.Histories.{refusal, Reached}
-use Rattle.demands.specs.Demands.{kind, byte-read, above-irq, Load, Demand-3}
+use Rattle.cleftromi.specs.Interface.{cycle-by, number-of, answer}
+use Rattle.cleftromi.specs.Fields.{refusal, kind}
+use Rattle.cleftromi.specs.Fields as field
+use Rattle.cleftromi.proofs.Blocks.{granted-holds}
+use Rattle.demands.specs.Histories.{Register}
+use Rattle.demands.specs.Demands.{above-irq, Load, Translation, Demand-3}
 use Rattle.demands.proofs.Calls.{Made, access-made, register-made}
-use Rattle.demands.proofs.Histories.{Good, number-fits, granted-told, reached-good}
-use Rattle.demands.proofs.Refusals.{long-answer}
+use Rattle.demands.proofs.Histories.{number-fits, granted-told, reached-good}
+use Rattle.demands.proofs.Refusals.{long-answer, demand-1}
+use Rattle.demands.proofs.Stated.{told, stated}
 
--- ---- a load through C
+-- ---- a register read through C
 
-abbrev load-call : (m : ℕ) → Call
-load-call m = call.Register m 0x3F operation.Read
-
--- where it has no numbered refusal it is a load in unit m
-is-load : (m : ℕ) (s : System) → values (performed (load-call m) s .answer) .number ≡ 0
-    → (m < present s) × (performed (load-call m) s ≡ granted (Byte (load m s .byte)) (load m s .system))
-unfolding refused operate register-at read-register
-is-load m s =
+-- where it has no numbered refusal, it is the read of that register in unit m
+is-read : (m address : ℕ) (s : System) → let c = call.Register m address operation.Read in
+    let r = read-register (register-at address) m s in
+    values (performed c s .answer) .number ≡ 0 → (m < present s) × (performed c s ≡ granted (Byte (r .byte)) (r .system))
+unfolding refused operate
+is-read m address s =
     outcome-law
-    (λ (o : Outcome). values (o .answer) .number ≡ 0 → (m < present s) × (o ≡ granted (Byte (load m s .byte)) (load m s .system)))
-    (load-call m) s (λ r e. absurd (refusal-told r .0 e))
+    (λ (o : Outcome). values (o .answer) .number ≡ 0
+    → (m < present s) × (o ≡ granted (Byte (read-register (register-at address) m s .byte)) (read-register (register-at address) m s .system)))
+    (call.Register m address operation.Read) s (λ r e. absurd (refusal-told r .0 e))
     (λ n e. (counted-present m (s .shared .count) (n .0) (n .1 .0), refl))
 
-answer-fields : (c : Call) (b : List ℕ) → Good b → Fields (values (performed c (read b) .answer)) (performed c (read b) .irq) (answer c b)
-answer-fields c b g = rw (long-answer c b (g .long)) (fields _ _ (performed-fit c (read b) (g .invariants .clean)))
-
-pub record Loaded (m : ℕ) (b : List ℕ) (r : ℕ) (e : List ℕ) : Type 0 where
+pub record Was-read (reading : Reading) (m : ℕ) (b : List ℕ) (r : ℕ) (e : List ℕ) : Type 0 where
   pub there : m < present (read b)
-  pub byte : byte-read r ≡ load m (read b) .byte
-  pub reads : read e ≡ load m (read b) .system
+  pub clean : Clean (read b)
+  pub byte : field.byte r ≡ reading .byte
+  pub reads : read e ≡ reading .system
 
-loaded : (m : ℕ) {b e : List ℕ} {r : ℕ} → Good b → Made (load-call m) b r e
-    → values (performed (load-call m) (read b) .answer) .number ≡ 0 → Loaded m b r e
+was-read : (m address : ℕ) {value r : ℕ} {b e : List ℕ} → Bytes b → Register m address 0 value b r e → refusal r ≡ 0
+    → Was-read (read-register (register-at address) m (read b)) m b r e
 unfolding granted
-loaded m {b} g k n =
-    let l = is-load m (read b) n in
+was-read m address {b = b} h k e =
+    let c = call.Register m address operation.Read in
+    let made = register-made k in
+    let t = granted-told c b _ (made .answered) e in
+    let l = is-read m address (read b) (t .granted) in
+    let o = stated c h (t .long) made in
     record {
       there = l .0;
-      byte = rw (k .answered) (answer-fields (load-call m) b g .byte ∙ ap (λ (o : Outcome). values (o .answer) .byte) (l .1));
-      reads =
-          rw (k .left)
-          (granted-holds (load-call m) b (performed-clean (load-call m) (read b) (g .invariants .clean) (k .byte)) (g .long) n .reads
-          ∙ ap (λ (o : Outcome). o .system) (l .1));
+      clean = read-clean b h;
+      byte = o .fields .byte ∙ ap (λ (o : Outcome). values (o .answer) .byte) (l .1);
+      reads = o .registers ∙ ap (λ (o : Outcome). o .system) (l .1);
     }
+
+-- a load, and a direct translation
+pub loaded : {m value r : ℕ} {b e : List ℕ} → Bytes b → Load m value b r e → refusal r ≡ 0 → Was-read (load m (read b)) m b r e
+unfolding register-at read-register
+loaded {m} h k e = was-read m 0x3F h k e
+
+pub translated : {m value r : ℕ} {b e : List ℕ} → Bytes b → Translation m value b r e → refusal r ≡ 0
+    → Was-read (direct-translation m (read b)) m b r e
+unfolding register-at read-register
+translated {m} h k e = was-read m 0x3D h k e
 
 -- ---- an access before a load and after it
 
@@ -173,11 +187,10 @@ but-irq a x y =
     let n = number-fits a in
     (omega arith, omega arith, omega arith)
 
-harmless-law : (m value : ℕ) (b e : List ℕ) (r : ℕ) → Reached b → Load m value b r e
+harmless-law : {m value r : ℕ} {b e : List ℕ} → Bytes b → Load m value b r e
     → enabled (descriptor (read b) (pointed m (read b))) ≡ false → (code : ℕ) (cycle : Cycle) (address : ℕ)
     → let c = call.Access code cycle address in kind (answer c b) ≢ undefined → Same-answer (answer c b) (answer c e)
-harmless-law m value b e r reached k off code cycle address d =
-    go (eqb (values (performed (load-call m) s .answer) .number) 0) refl
+harmless-law {m} {r = r} {b} {e} h k off code cycle address d = go (eqb (refusal r) 0) refl
   where
     s : System
     s = read b
@@ -185,50 +198,44 @@ harmless-law m value b e r reached k off code cycle address d =
     c : Call
     c = call.Access code cycle address
 
-    g : Good b
-    g = reached-good reached
+    load-call : Call
+    load-call = call.Register m 0x3F operation.Read
 
-    h : Good e
-    h = reached-good (histories.called reached (histories.register k))
-
-    made : Made (load-call m) b r e
+    made : Made load-call b r e
     made = register-made k
 
-    go : (t : Bool) → eqb (values (performed (load-call m) s .answer) .number) 0 ≡ t → Same-answer (answer c b) (answer c e)
+    go : (t : Bool) → eqb (refusal r) 0 ≡ t → Same-answer (answer c b) (answer c e)
     go true q =
-        let l = loaded m g made (eqb-true _ _ q) in
-        let n = g .invariants .clean in
+        let granted = eqb-true _ _ q in
+        let t = granted-told load-call b r (made .answered) granted in
+        let l = loaded h k granted in
+        let n = l .clean in
+        let long : short e ≡ false =
+        rw (made .left) (granted-holds load-call b (performed-clean load-call s n (made .byte)) (t .long) (t .granted) .long) in
         let same =
         access-answer code cycle address s (load m s .system) (load-shared m s (l .there) (n .places .0) (n .places .1))
-        (λ page number i p q. load-harmless m s (l .there) (n .places .0) (n .places .1) (g .invariants .apart) off page number i p q)
-        (n .shared .entry) (λ u. d (answer-fields c b g .kind ∙ u)) in
-        rw (long-answer c b (g .long), long-answer c e (h .long), l .reads, same)
+        (load-harmless m s (l .there) (n .places .0) (n .places .1) off) (n .shared .entry) (λ u. d (told c b h (t .long) .kind ∙ u)) in
+        rw (long-answer c b (t .long), long-answer c e long, l .reads, same)
         (but-irq (performed c s .answer) (performed c s .irq) (performed c (load m s .system) .irq))
-    go false q =
-        let stays : e ≡ b = made .left ∙ refused-stays (load-call m) b (eqb-false _ _ q) (g .long) in
-        rw stays (refl, refl, refl)
+    go false q = rw (demand-1 .register k .unchanged (eqb-false _ _ q)) (refl, refl, refl)
 
 -- ---- the three sentences
 
 pub demand-3 : Demand-3
 demand-3 = record {
   one-match = λ r page number i j p n hi hj. at-most-one _ (reached-good r .invariants .apart) page number i j p n hi hj;
-  refused-exactly = λ {m} {b = b} r k granted e.
-      let g = reached-good r in
-      let c = register-made k in
-      let l = loaded m g c (granted-told _ b _ (c .answered) granted .granted) in
-      let s = g .invariants .clean .places in
+  refused-exactly = λ {m} {b = b} h k granted e.
+      let l = loaded h k granted in
+      let s = l .clean .places in
       rw (l .byte) (load-refused m (read b) (l .there) (s .0) (s .1) e);
-  else-enabled = λ {m} {b = b} r k granted e n.
-      let g = reached-good r in
-      let c = register-made k in
-      let l = loaded m g c (granted-told _ b _ (c .answered) granted .granted) in
-      let s = g .invariants .clean .places in
+  else-enabled = λ {m} {b = b} h k granted e n.
+      let l = loaded h k granted in
+      let s = l .clean .places in
       let d = load-granted m (read b) (l .there) (s .0) (s .1) (rw (l .byte) at n) in
       (l .byte ∙ d .0, rw (l .reads, d .1) (clean-e (ac (unit (read b) m) 7) ∙ e));
-  harmless = λ {m} {value} {loaded} {b} {after} r k off {function-code} {direction} {address} a a′ d.
+  harmless = λ {b = b} h k off {function-code} {direction} {address} a a′ d.
       let before = access-made a in
       let later = access-made a′ in
       rw (before .answered, later .answered)
-      (harmless-law m value b after loaded r k off function-code (cycle-by direction) address (rw (before .answered) at d));
+      (harmless-law h k off function-code (cycle-by direction) address (rw (before .answered) at d));
 }

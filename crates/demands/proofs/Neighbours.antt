@@ -1,16 +1,35 @@
--- No stale neighbour, in every reached block. Assumes nothing.
+-- No stale neighbour: in every reached block, and after every event in any block of bytes. Assumes nothing.
 use Prim.Native.Nat.{ℕ}
 use mathlib.Core.Path.{_≡_, refl, sym, ap, _∙_}
+use mathlib.Core.Logic.{_≢_}
 use mathlib.Core.Bool.{Bool, true, false, not, _&&_, _||_, cond, false≢true}
+use mathlib.Core.List.{List}
+use native.Mathlib.Omega.{arith}
 use lib.Dec.{eqb, lit<}
 use Rattle.masks.specs.Fields.{bit}
 use Rattle.masks.proofs.Bits.{bit-field}
 use Rattle.descriptors.specs.Status.{E, IP, reserved, clean}
-use Rattle.chip.specs.System.{descriptor}
+use Rattle.chip.specs.System.{unit, descriptor}
+use Rattle.chip.specs.Access.{writes}
+use Rattle.chip.specs.Event.{leaves}
+use Rattle.chip.specs.Event as event
+use Rattle.chip.specs.Call.{performed}
+use Rattle.chip.specs.declared.access.Cycle.the-variants as cycle
+use Rattle.chip.specs.declared.call.Call.{Call}
+use Rattle.chip.specs.declared.call.Call.the-variants as call
 use Rattle.chip.proofs.Marked.{Agreed}
-use Rattle.block.specs.Layout.{read}
-use Rattle.demands.specs.Demands.{No-stale-neighbour}
+use Rattle.chip.proofs.Events.{Faults, access-leaves, granted-leaves, refused-leaves, translation-leaves}
+use Rattle.block.specs.Layout.{Bytes, short, read}
+use Rattle.block.proofs.Tidy.{read-clean}
+use Rattle.cleftromi.specs.Interface.{cycle-by}
+use Rattle.cleftromi.specs.Fields.{kind}
+use Rattle.demands.specs.Histories.{Access}
+use Rattle.demands.specs.Demands.{As-stated, No-stale-neighbour}
+use Rattle.demands.proofs.Calls.{access-made}
 use Rattle.demands.proofs.Histories.{reached-good}
+use Rattle.demands.proofs.Refusals.{short-made}
+use Rattle.demands.proofs.Stated.{stated}
+use Rattle.demands.proofs.Loads.{loaded, translated}
 
 -- 3.1.6: a clean status has IP only with E
 pending-enabled : (ssr : ℕ) → clean ssr ≡ ssr → bit ssr IP ≡ true → bit ssr E ≡ true
@@ -24,6 +43,28 @@ pending-enabled ssr c p = go (bit ssr E) (sym (bit-field 8 kept IP (lit< tt)) �
     go true e = refl
     go false e = absurd (false≢true e)
 
+-- ---- what an event leaves
+
+-- an access that faults, through C
+faulted : {code direction address r : ℕ} {b e : List ℕ} → Bytes b → Access code direction address b r e → kind r ≢ 0
+    → let o = performed (call.Access code (cycle-by direction) address) (read b) in
+    As-stated o r e × Faults (cycle-by direction) (read b) o
+faulted {code} {direction} {address} {r} {b} {e} h k n = go (short b) refl
+  where
+    c : Call
+    c = call.Access code (cycle-by direction) address
+
+    go : (t : Bool) → short b ≡ t → As-stated (performed c (read b)) r e × Faults (cycle-by direction) (read b) (performed c (read b))
+    go true q = absurd (n (ap kind (access-made k .answered ∙ short-made c b q .0)))
+    go false q = (stated c h q (access-made k), access-leaves code (cycle-by direction) address (read b) (read-clean b h .places .0))
+
+reads-by : (direction : ℕ) → not (writes (cycle-by direction)) ≡ eqb direction 0
+reads-by direction = go (eqb direction 0)
+  where
+    go : (b : Bool) → not (writes (cond b cycle.Read cycle.Write)) ≡ b
+    go true = refl
+    go false = refl
+
 pub no-stale-neighbour : No-stale-neighbour
 unfolding Agreed
 no-stale-neighbour = record {
@@ -35,4 +76,21 @@ no-stale-neighbour = record {
         within = g .invariants .clean;
         form = g .form;
       };
+  violation = λ h a e k l.
+      let f = faulted h a (λ z. omega arith) in
+      rw (f .0 .registers, f .0 .fields .unit, f .0 .fields .descriptor) (f .1 .violating (sym (f .0 .fields .kind) ∙ e) k l);
+  undefined = λ {direction = direction} {b = b} h a e k l.
+      let f = faulted h a (λ z. omega arith) in
+      rw (f .0 .registers)
+      (f .1 .undefined (sym (f .0 .fields .kind) ∙ e) k l
+      ∙ ap (λ (reads : Bool). leaves (event.undefined reads) k (unit (read b) k .rw)) (reads-by direction));
+  granted-load = λ {m} {b = b} h a granted n k l.
+      let o = loaded h a granted in
+      rw (o .reads) (granted-leaves m (read b) (o .there) (o .clean .places .0) (rw (o .byte) at n) k l);
+  refused-load = λ {m} {b = b} h a granted e.
+      let o = loaded h a granted in
+      rw (o .reads) (refused-leaves m (read b) (o .there) (o .clean .places .0) (o .clean .places .1) (rw (o .byte) at e));
+  translation = λ {m} {b = b} h a granted k l.
+      let o = translated h a granted in
+      rw (o .reads) (translation-leaves m (read b) (o .there) (o .clean .places .0) k l);
 }

@@ -28,7 +28,7 @@ use Rattle.block.specs.Layout.{short, read}
 use Rattle.cleftromi.specs.Interface.{none, selected-by, number-of, answer, after}
 use Rattle.cleftromi.proofs.Fields.{refusal-back}
 use Rattle.cleftromi.proofs.Blocks.{refused-stays}
-use Rattle.demands.specs.Histories.{refusal}
+use Rattle.cleftromi.specs.Fields.{refusal}
 use Rattle.demands.specs.Demands.{first-of, Refused-by, Demand-1}
 use Rattle.demands.proofs.Calls.{Made, start-made, reset-made, access-made, register-made, acknowledge-made}
 use Rattle.demands.proofs.Histories.{number-fits}
@@ -56,7 +56,7 @@ translated (At i) cycle page number offset s =
     either (λ (o : Outcome). values (o .answer) .number ≡ 0) (writes cycle && protected (descriptor s i)) (λ e. refl) (λ e. refl)
 translated Nowhere cycle page number offset s = refl
 
-unrefused-granted : (c : Call) (s : System) → values (unrefused c s .answer) .number ≡ 0
+pub unrefused-granted : (c : Call) (s : System) → values (unrefused c s .answer) .number ≡ 0
 unfolding granted translate operate
 unrefused-granted (call.Start count selected) s = refl
 unrefused-granted (call.Reset selected) s = refl
@@ -78,7 +78,7 @@ alone c s =
     c s (λ r n. omega arith) (λ k n. absurd (n (unrefused-granted c s)))
 
 -- a block that is too short, and one that is not
-short-made : (c : Call) (b : List ℕ) → short b ≡ true → (answer c b ≡ 7) × (after c b ≡ b)
+pub short-made : (c : Call) (b : List ℕ) → short b ≡ true → (answer c b ≡ 7) × (after c b ≡ b)
 unfolding answer after
 short-made c b q = (rw q, rw q)
 

@@ -1,5 +1,5 @@
 -- The checker's theorems of the five; that their promises can be kept; and a block that is reached. Assumes nothing.
-use Prim.Native.Nat.{ℕ, _<_}
+use Prim.Native.Nat.{ℕ}
 use mathlib.Core.Path.{_≡_, refl, _∙_}
 use mathlib.Core.List.{List, []}
 use lib.Dec.{lit<}

@@ -1,5 +1,5 @@
 -- The demands, each under the user's words. What is claimed is claimed of anything that keeps the promises of the five functions.
-use Prim.Native.Nat.{ℕ, _*_, _/_, _%_, _^_, _<_}
+use Prim.Native.Nat.{ℕ, _*_, _/_, _^_, _<_}
 use mathlib.Core.Path.{_≡_}
 use mathlib.Core.Logic.{_≢_, _↔_}
 use mathlib.Core.Bool.{Bool, true, false, not, _&&_, cond}
@@ -8,15 +8,25 @@ use lib.Dec.{eqb, ltb}
 use Rattle.masks.specs.Fields.{bit}
 use Rattle.descriptors.specs.Status.{E}
 use Rattle.descriptors.specs.Descriptor.{enabled, pending, matches}
-use Rattle.registers.specs.Unit.{byte, ac, segment}
+use Rattle.registers.specs.Unit.{byte, ac, word, segment}
 use Rattle.chip.specs.System.{present, unit, descriptor, pointed}
-use Rattle.chip.specs.Search.{irq}
-use Rattle.chip.specs.Answer.{miscounted, absent, undefined}
+use Rattle.chip.specs.Search.{irq, matching}
+use Rattle.chip.specs.Answer.{values, violating, undefined, miscounted, absent}
+use Rattle.chip.specs.Reset.{start, reset}
+use Rattle.chip.specs.Access.{access}
+use Rattle.chip.specs.Register.{register}
+use Rattle.chip.specs.Acknowledge.{acknowledge}
 use Rattle.chip.specs.Load.{Collision}
-use Rattle.block.specs.Layout.{short, read, written}
+use Rattle.chip.specs.Event.{Event, status, leaves, Lowest}
+use Rattle.chip.specs.Event as event
+use Rattle.chip.specs.declared.search.Found.{Found}
+use Rattle.chip.specs.declared.answer.Outcome.{Outcome}
+use Rattle.block.specs.Layout.{Bytes, short, read, written}
 use Rattle.block.specs.Clean.{Clean}
-use Rattle.cleftromi.specs.Interface.{none}
-use Rattle.demands.specs.Histories.{Start, Reset, Access, Register, Acknowledge, Step, refusal, Reached}
+use Rattle.cleftromi.specs.Interface.{none, selected-by, cycle-by, operation-by}
+use Rattle.cleftromi.specs.Fields.{refusal, kind, Fields}
+use Rattle.cleftromi.specs.Fields as field
+use Rattle.demands.specs.Histories.{Start, Reset, Access, Register, Acknowledge, Step, Reached}
 
 -- what a block holds
 abbrev pub count : (block : List ℕ) → ℕ
@@ -24,17 +34,6 @@ count b = read b .shared .count
 
 abbrev pub places : (block : List ℕ) → ℕ
 places b = 32 * present (read b)
-
--- the fields of an answer beside its refusal (docs/LAYOUTS.md)
-abbrev pub kind : (answer : ℕ) → ℕ
-kind answer = answer / 2 ^ 8 % 2 ^ 4
-
-abbrev pub byte-read : (answer : ℕ) → ℕ
-byte-read answer = answer / 2 ^ 24 % 2 ^ 8
-
--- all above IRQ: WIN, unit, descriptor, byte and physical address
-abbrev pub above-irq : (answer : ℕ) → ℕ
-above-irq answer = answer / 2 ^ 13
 
 -- ---- Demand 1
 
@@ -63,11 +62,38 @@ pub record Demand-1 : Type 0 where
   pub acknowledge : {unit answer : ℕ} {b after : List ℕ} → Acknowledge unit b answer after
       → Refused-by ((7, short b) ∷ (1, miscounted (count b)) ∷ (2, absent unit (count b)) ∷ (6, not (irq (read b))) ∷ []) b answer after
 
+-- ---- Demand 2
+
+-- each field of the answer has the outcome's value, and the block then reads as the outcome's system
+pub record As-stated (o : Outcome) (answer : ℕ) (after : List ℕ) : Type 0 where
+  pub fields : Fields (values (o .answer)) (o .irq) answer
+  pub registers : read after ≡ o .system
+
+-- "Every bus access, register access, acknowledge and reset gives the answer, and leaves the registers, that the handbook and 01
+-- state, for one to six units": on any bytes and any numbers; a block that is too short is demand 1's
+pub record Demand-2 : Type 0 where
+  pub start : {units selected answer : ℕ} {b after : List ℕ} → Bytes b → short b ≡ false → Start units selected b answer after
+      → As-stated (start units (selected-by selected) (read b)) answer after
+  pub reset : {selected answer : ℕ} {b after : List ℕ} → Bytes b → short b ≡ false → Reset selected b answer after
+      → As-stated (reset (selected-by selected) (read b)) answer after
+  pub access : {function-code direction address answer : ℕ} {b after : List ℕ} → Bytes b → short b ≡ false
+      → Access function-code direction address b answer after
+      → As-stated (access function-code (cycle-by direction) address (read b)) answer after
+  pub register : {unit address direction value answer : ℕ} {b after : List ℕ} → Bytes b → short b ≡ false
+      → Register unit address direction value b answer after
+      → As-stated (register unit address (operation-by direction value) (read b)) answer after
+  pub acknowledge : {unit answer : ℕ} {b after : List ℕ} → Bytes b → short b ≡ false → Acknowledge unit b answer after
+      → As-stated (acknowledge unit (read b)) answer after
+
 -- ---- Demand 3
 
 -- a load is a register read of $3F
 abbrev pub Load : (unit value : ℕ) → Step
 Load unit value = Register unit 0x3F 0 value
+
+-- all of an answer above IRQ: WIN, unit, descriptor, byte and physical address
+abbrev pub above-irq : (answer : ℕ) → ℕ
+above-irq answer = answer / 2 ^ 13
 
 pub record Demand-3 : Type 0 where
   -- "From a granted start or reset on, after any calls, as long as nothing else writes the state, no two enabled descriptors
@@ -75,18 +101,19 @@ pub record Demand-3 : Type 0 where
   pub one-match : {b : List ℕ} → Reached b → (page number i j : ℕ) → page < 2 ^ 16 → number < 2 ^ 8
       → i < places b → j < places b
       → matches (descriptor (read b) i) page number ≡ true → matches (descriptor (read b) j) page number ≡ true → i ≡ j
+  -- The other two sentences have no "from a granted start or reset on": they are claimed of every block of bytes.
   -- "A load that asks to be enabled, in a call with no numbered refusal, is refused exactly when some address and number
   -- exist that it and another enabled descriptor would both match."
-  pub refused-exactly : {m value answer : ℕ} {b after : List ℕ} → Reached b → Load m value b answer after → refusal answer ≡ 0
+  pub refused-exactly : {m value answer : ℕ} {b after : List ℕ} → Bytes b → Load m value b answer after → refusal answer ≡ 0
       → bit (ac (unit (read b) m) 7) E ≡ true
-      → (byte-read answer ≡ 0xFF) ↔ Collision (segment (unit (read b) m)) (pointed m (read b)) (read b)
+      → (field.byte answer ≡ 0xFF) ↔ Collision (segment (unit (read b) m)) (pointed m (read b)) (read b)
   -- and otherwise it is enabled
-  pub else-enabled : {m value answer : ℕ} {b after : List ℕ} → Reached b → Load m value b answer after → refusal answer ≡ 0
-      → bit (ac (unit (read b) m) 7) E ≡ true → byte-read answer ≢ 0xFF
-      → (byte-read answer ≡ 0x00) × (enabled (descriptor (read after) (pointed m (read b))) ≡ true)
+  pub else-enabled : {m value answer : ℕ} {b after : List ℕ} → Bytes b → Load m value b answer after → refusal answer ≡ 0
+      → bit (ac (unit (read b) m) 7) E ≡ true → field.byte answer ≢ 0xFF
+      → (field.byte answer ≡ 0x00) × (enabled (descriptor (read after) (pointed m (read b))) ≡ true)
   -- "A load into a disabled descriptor, granted or refused, changes no physical address and no write violation that an access
   -- would have had just before it: it can only give an answer where the access was undefined."
-  pub harmless : {m value loaded : ℕ} {b after : List ℕ} → Reached b → Load m value b loaded after
+  pub harmless : {m value loaded : ℕ} {b after : List ℕ} → Bytes b → Load m value b loaded after
       → enabled (descriptor (read b) (pointed m (read b))) ≡ false
       → {function-code direction address answer later : ℕ} {left finally : List ℕ}
       → Access function-code direction address b answer left → Access function-code direction address after later finally
@@ -107,5 +134,28 @@ pub record Sound (b : List ℕ) : Type 0 where
   pub within : Clean (read b)
   pub form : written b (read b) ≡ b
 
+-- every unit's L4-L7, RDP and RW are those of the event: in the unit concerned, and in each that has no part in it
+abbrev pub Leaves : Event → (before after : List ℕ) → Type 0
+Leaves e b after = (k : ℕ) → k < present (read b) → status (unit (read after) k) ≡ leaves e k (unit (read b) k .rw)
+
+-- a direct translation is a register read of $3D
+abbrev pub Translation : (unit value : ℕ) → Step
+Translation unit value = Register unit 0x3D 0 value
+
 pub record No-stale-neighbour : Type 0 where
   pub sound : {b : List ℕ} → Reached b → Sound b
+  -- after each call that is a fault, a load or a direct translation, in every block of bytes
+  pub violation : {function-code direction address answer : ℕ} {b after : List ℕ} → Bytes b
+      → Access function-code direction address b answer after → kind answer ≡ violating
+      → Leaves (event.violation (field.unit answer) (field.descriptor answer)) b after
+  pub undefined : {function-code direction address answer : ℕ} {b after : List ℕ} → Bytes b
+      → Access function-code direction address b answer after → kind answer ≡ undefined
+      → Leaves (event.undefined (eqb direction 0)) b after
+  pub granted-load : {m value answer : ℕ} {b after : List ℕ} → Bytes b → Load m value b answer after → refusal answer ≡ 0
+      → field.byte answer ≢ 0xFF → Leaves event.load-granted b after
+  pub refused-load : {m value answer : ℕ} {b after : List ℕ} → Bytes b → Load m value b answer after → refusal answer ≡ 0
+      → field.byte answer ≡ 0xFF
+      → (lowest : ℕ → Found) × ((k : ℕ) → Lowest (segment (unit (read b) m)) (pointed m (read b)) k (read b) (lowest k))
+      × Leaves (event.load-refused lowest) b after
+  pub translation : {m value answer : ℕ} {b after : List ℕ} → Bytes b → Translation m value b answer after → refusal answer ≡ 0
+      → Leaves (event.translation (matching (word (unit (read b) m) 0) (ac (unit (read b) m) 6) (read b))) b after

@@ -1,7 +1,10 @@
 -- The blocks that can be reached: from a granted start or reset, by any calls, as long as nothing else writes the state.
-use Prim.Native.Nat.{ℕ, _%_, _^_}
+use Prim.Native.Nat.{ℕ}
 use mathlib.Core.Path.{_≡_}
 use mathlib.Core.List.{List}
+use lib.ListN.{take}
+use Rattle.block.specs.Layout.{size}
+use Rattle.cleftromi.specs.Fields.{refusal}
 use Rattle.demands.specs.Promises.{Called}
 use Rattle.cleftromi.proofs.cleftromi_start as cleftromi-start
 use Rattle.cleftromi.proofs.cleftromi_reset as cleftromi-reset
@@ -37,11 +40,9 @@ pub data Call (before : List ℕ) (answer : ℕ) (after : List ℕ) : Type 0 whe
   register : {unit address direction value : ℕ} → Register unit address direction value before answer after → Call before answer after
   acknowledge : {unit : ℕ} → Acknowledge unit before answer after → Call before answer after
 
--- the answer's number of a refusal; a call is granted where it is zero
-abbrev pub refusal : (answer : ℕ) → ℕ
-refusal answer = answer % 2 ^ 8
-
 pub data Reached : List ℕ → Type 0 where
   started : {units selected answer : ℕ} {before after : List ℕ} → Start units selected before answer after → refusal answer ≡ 0 → Reached after
   was-reset : {selected answer : ℕ} {before after : List ℕ} → Reset selected before answer after → refusal answer ≡ 0 → Reached after
   called : {answer : ℕ} {before after : List ℕ} → Reached before → Call before answer after → Reached after
+  -- the state is the first 4,096 bytes: how many are lent, and what is past them, is the host's
+  lent-anew : {before after : List ℕ} → Reached before → take size after ≡ take size before → Reached after
