@@ -101,7 +101,12 @@ selecting steps = record { unit = selected.Unit 0; steps = steps }
 abbrev pub unselecting : List Step → Case
 unselecting steps = record { unit = selected.Nobody; steps = steps }
 
--- 1 to 9, 12, 11, and 10 in its two parts
+-- the segment, where it is the only one, maps the address
+abbrev pub alone : Descriptor → (number address physical : ℕ) → Case
+alone d number address physical = unselecting (load 0 d 0x00 ++ (maps number address physical ∷ []))
+
+-- 1 to 9, 12, 11, and 10 in its two parts. After 8, and after the first part of 10, the segment that was
+-- refused, alone: it maps the page that the one it clashed with maps
 abbrev pub cases : List Case
 cases =
     selecting (figure ++ (maps 0x01 0x900000 0xE00000 ∷ maps 0x02 0xA00000 0xE00000 ∷ []))
@@ -112,10 +117,12 @@ cases =
     ∷ selecting (figure ++ (maps 0x02 0x010000 0x110000 ∷ []))
     ∷ selecting (figure ++ (maps 0x00 0xABCD00 0xABCD00 ∷ []))
     ∷ selecting (figure ++ load 9 (neighbour 0x01) 0xFF ++ (reads 0x3B 4 ∷ maps 0x01 0x500000 0x900000 ∷ []))
+    ∷ alone (neighbour 0x01) 0x01 0x500000 0x000000
     ∷ selecting (figure ++ load 9 (neighbour 0x03) 0x00 ++ (maps 0x03 0x500000 0x000000 ∷ []))
     ∷ selecting (figure ++ (write 0x29 4 ∷ reads 0x31 0x01 ∷ reads 0x3F 0x00 ∷ maps 0x01 0x7FFF12 0xBFFF12 ∷ []))
     ∷ selecting (write 0x29 1 ∷ write 0x31 0x01 ∷ reads 0x31 0x00 ∷ [])
     ∷ unselecting (load 0 (one-bit 0x0001 0x0001) 0x00 ++ (maps 0x00 0x800100 0x800000 ∷ []) ++ load 1 (one-bit 0x8000 0x8000) 0xFF)
+    ∷ alone (one-bit 0x8000 0x8000) 0x00 0x800100 0x000100
     ∷ unselecting (load 0 (one-bit 0x0000 0x0001) 0x00 ++ load 1 (one-bit 0x0001 0x0001) 0x00)
     ∷ []
 
