@@ -73,14 +73,14 @@ unfolding fault with-shared
 fault-six cycle s us = six _ s us
 
 violation-leaves : (cycle : Cycle) (page number m n : ℕ) (s : System) → Six s → m < present s → writes cycle ≡ true
-    → (k : ℕ) → k < present s → status (unit (violation cycle page number m n s) k) ≡ leaves (event.violation m n) k (unit s k .rw)
+    → (k : ℕ) → k < present s → status (unit (violation cycle page number m n s) k) ≡ leaves (event.write-violation m n) k (unit s k .rw)
 unfolding violation fault with-shared with-units
 violation-leaves cycle page number m n s us h w k l =
     one-changed (λ u. report WV n (latch page number u)) (in-all (report NO none) (fault cycle s)) (six _ (fault cycle s) (fault-six cycle s us)) m k h
-    ∙ rw (done (report NO none) (fault cycle s) (fault-six cycle s us) k l, fault-unit cycle s us k l, w) refl
+    ∙ rw (done _ (fault cycle s) (fault-six cycle s us) k l, fault-unit cycle s us k l, w) refl
 
 undefined-leaves : (cycle : Cycle) (page number : ℕ) (s : System) → Six s
-    → (k : ℕ) → k < present s → status (unit (undefined cycle page number s) k) ≡ leaves (event.undefined (not (writes cycle))) k (unit s k .rw)
+    → (k : ℕ) → k < present s → status (unit (undefined cycle page number s) k) ≡ leaves (event.undefined-access (not (writes cycle))) k (unit s k .rw)
 unfolding undefined fault with-shared with-units
 undefined-leaves cycle page number s us k h =
     let latched = done (latch page number) (fault cycle s) (fault-six cycle s us) k h in
@@ -91,9 +91,9 @@ undefined-leaves cycle page number s us k h =
 pub record Faults (cycle : Cycle) (s : System) (o : Outcome) : Type 0 where
   pub violating : values (o .answer) .kind ≡ violating
       → (k : ℕ) → k < present s
-      → status (unit (o .system) k) ≡ leaves (event.violation (values (o .answer) .unit) (values (o .answer) .descriptor)) k (unit s k .rw)
+      → status (unit (o .system) k) ≡ leaves (event.write-violation (values (o .answer) .unit) (values (o .answer) .descriptor)) k (unit s k .rw)
   pub undefined : values (o .answer) .kind ≡ undefined-kind
-      → (k : ℕ) → k < present s → status (unit (o .system) k) ≡ leaves (event.undefined (not (writes cycle))) k (unit s k .rw)
+      → (k : ℕ) → k < present s → status (unit (o .system) k) ≡ leaves (event.undefined-access (not (writes cycle))) k (unit s k .rw)
 
 pub access-leaves : (code : ℕ) (cycle : Cycle) (address : ℕ) (s : System) → Six s → Faults cycle s (performed (call.Access code cycle address) s)
 unfolding translate translate-at match-at refused granted
@@ -164,7 +164,7 @@ module _ (d : Descriptor) (i : ℕ) (s : System) where
       × (r .byte ≡ 0xFF → (enabled d ≡ true) × (status (unit (r .system) k) ≡ leaves (event.load-refused lowest) k (unit s k .rw))))
       (collision d off)
       (λ c. (λ n. absurd (n refl), λ e. (and-eq-true-iff (enabled d) (found (in-system (collides d) off)) .0 c .0, ap status (each-unit off _ k h (omega arith)) ∙ blamed k (lowest k) (unit s k))))
-      (λ c. (λ n. ap status (done (report NO none) (with-descriptor off i d) us k h), λ e. absurd (omega arith)))
+      (λ c. (λ n. ap status (done _ (with-descriptor off i d) us k h), λ e. absurd (omega arith)))
 
   lowest-law : i < length (s .descriptors) → enabled d ≡ true → (k : ℕ) → Lowest d i k s (lowest k)
   lowest-law there asks k = go (lowest k) refl
@@ -194,8 +194,8 @@ result-leaves : (f : Found) (page : ℕ) (s : System) → Six s → ((i : ℕ) �
 unfolding result-at with-units
 result-leaves (At i) page s us there k h =
     one-changed (translated (physical-page (descriptor s i) page) (i % 32)) (in-all (report NO none) s) (six _ s us) (i / 32) k (there i refl)
-    ∙ rw (done (report NO none) s us k h) refl
-result-leaves Nowhere page s us there k h = ap status (done (report NO none) s us k h)
+    ∙ rw (done _ s us k h) refl
+result-leaves Nowhere page s us there k h = ap status (done _ s us k h)
 
 -- ---- both, by unit m's accumulator
 

@@ -13,9 +13,9 @@ use Rattle.chip.specs.declared.search.Found.the-variants.{At, Nowhere}
 
 pub data Event : Type 0 where
   -- a write violation at descriptor n of unit m
-  violation : (m n : ℕ) → Event
+  write-violation : (m n : ℕ) → Event
   -- an undefined segment access, by a read or not
-  undefined : (read : Bool) → Event
+  undefined-access : (read : Bool) → Event
   -- a direct translation, and where the match is
   translation : Found → Event
   -- a load that is refused, and where each unit's lowest collision is; one that is granted
@@ -32,8 +32,8 @@ status u = (u .l, u .rdp, u .rw)
 -- The table: what unit k has after the event, which finds `rw` there: the unit concerned, and every other. A fault latches RW, 1 for
 -- a read, in all units; a load and a direct translation leave it
 abbrev pub leaves : Event → (k : ℕ) (rw : Bool) → Status
-leaves (violation m n) k rw = cond (eqb k m) (WV, n, false) (NO, none, false)
-leaves (undefined read) k rw = (USA, none, read)
+leaves (write-violation m n) k rw = cond (eqb k m) (WV, n, false) (NO, none, false)
+leaves (undefined-access read) k rw = (USA, none, read)
 leaves (translation (At i)) k rw = cond (eqb k (i / 32)) (DT, i % 32, rw) (NO, none, rw)
 leaves (translation Nowhere) k rw = (NO, none, rw)
 leaves (load-refused lowest) k rw = concerned (lowest k)

@@ -83,7 +83,7 @@ no-stale-neighbour = record {
       let f = faulted h a (λ z. omega arith) in
       rw (f .0 .registers)
       (f .1 .undefined (sym (f .0 .fields .kind) ∙ e) k l
-      ∙ ap (λ (reads : Bool). leaves (event.undefined reads) k (unit (read b) k .rw)) (reads-by direction));
+      ∙ ap (λ (reads : Bool). leaves (event.undefined-access reads) k (unit (read b) k .rw)) (reads-by direction));
   granted-load = λ {m} {b = b} h a granted n k l.
       let o = loaded h a granted in
       rw (o .reads) (granted-leaves m (read b) (o .there) (o .clean .places .0) (rw (o .byte) at n) k l);

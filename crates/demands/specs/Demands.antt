@@ -147,10 +147,10 @@ pub record No-stale-neighbour : Type 0 where
   -- after each call that is a fault, a load or a direct translation, in every block of bytes
   pub violation : {function-code direction address answer : ℕ} {b after : List ℕ} → Bytes b
       → Access function-code direction address b answer after → kind answer ≡ violating
-      → Leaves (event.violation (field.unit answer) (field.descriptor answer)) b after
+      → Leaves (event.write-violation (field.unit answer) (field.descriptor answer)) b after
   pub undefined : {function-code direction address answer : ℕ} {b after : List ℕ} → Bytes b
       → Access function-code direction address b answer after → kind answer ≡ undefined
-      → Leaves (event.undefined (eqb direction 0)) b after
+      → Leaves (event.undefined-access (eqb direction 0)) b after
   pub granted-load : {m value answer : ℕ} {b after : List ℕ} → Bytes b → Load m value b answer after → refusal answer ≡ 0
       → field.byte answer ≢ 0xFF → Leaves event.load-granted b after
   pub refused-load : {m value answer : ℕ} {b after : List ℕ} → Bytes b → Load m value b answer after → refusal answer ≡ 0
