@@ -2,24 +2,24 @@
 --     begun           a line that has begun, and what is still to come
 --     line-for-line   one line is printed for each
 -- Assumes nothing.
-use Prim.Native.Nat.{ℕ, zero, suc, _/_, _%_}
+use Prim.Native.Nat.{ℕ, zero, suc, _%_}
 use mathlib.Core.Path.{_≡_, refl, sym, ap, _∙_}
 use mathlib.Core.Bool.{Bool, true, false, not, _&&_, and-eq-true-iff}
 use mathlib.Core.List.{List, [], _∷_, _++_}
 use native.Mathlib.Omega.{arith}
 use lib.Dec.{eqb}
 use lib.ListN.{length, getD}
-use Rattle.chip.specs.Answer.{number}
+use Rattle.chip.specs.Answer.{values}
 use Rattle.chip.specs.Call.{performed}
-use Rattle.chip.specs.declared.answer.Answer.{Answer}
-use Rattle.chip.specs.declared.answer.Answer.the-variants.{Refused, Done, Byte, Mapped, Violation, Undefined}
+use Rattle.chip.specs.declared.answer.Values.{Values}
 use Rattle.chip.specs.declared.system.System.{System}
-use Rattle.lines.specs.Ascii.{ascii, byte, line-feed}
+use Rattle.lines.specs.Ascii.{ascii, line-feed}
 use Rattle.lines.specs.Line.{meaning}
 use Rattle.lines.specs.Text.{hex-digit, flag, printed}
 use Rattle.lines.specs.Turn.{told, left, longer, lines, answers}
 use Rattle.lines.specs.declared.line.Line.{Line}
 use Rattle.lines.specs.declared.line.Line.the-variants.{Called, Bad}
+use Rattle.lines.proofs.Texts.{either}
 
 -- the lines of an input, of which these bytes came before
 abbrev pub begun : (line : List ℕ) → List (List ℕ) → List (List ℕ)
@@ -77,32 +77,12 @@ fed-lines (next {c} {l} {rest} e f) = rw e (go (lines l) (fed-lines f))
     go [] q = absurd (omega arith)
     go (l ∷ ls) q = q
 
--- two digits, and flags to the end
-pair : (n m : ℕ) {l rest : List ℕ} → Fed l rest → Fed (hex-digit n ∷ hex-digit m ∷ l) rest
-pair n m f = next (plain-hex n) (next (plain-hex m) f)
-
-irq-last : (irq : Bool) (rest : List ℕ) → Fed (byte " " ∷ flag irq ∷ line-feed ∷ rest) rest
-irq-last irq rest = next refl (next (plain-flag irq) feed)
-
-where-last : (u d : ℕ) (win irq : Bool) (rest : List ℕ)
-    → Fed (hex-digit u ∷ byte " " ∷ hex-digit (d / 16) ∷ hex-digit d ∷ byte " " ∷ flag win ∷ byte " " ∷ flag irq ∷ line-feed ∷ rest) rest
-where-last u d win irq rest =
-    next (plain-hex u) (next refl (pair (d / 16) d (next refl (next (plain-flag win) (irq-last irq rest)))))
-
-printed-fed : (a : Answer) (irq : Bool) (rest : List ℕ) → Fed (printed a irq ++ rest) rest
+printed-fed : (v : Values) (irq : Bool) (rest : List ℕ) → Fed (printed v irq ++ rest) rest
 unfolding printed
-printed-fed (Mapped a u d w) irq rest =
-    next refl (next refl
-    (pair (a / 1048576) (a / 65536) (pair (a / 4096) (a / 256) (pair (a / 16) a
-    (next refl (where-last u d w irq rest))))))
-printed-fed (Violation u d w) irq rest = next refl (next refl (where-last u d w irq rest))
-printed-fed Undefined irq rest = next refl (irq-last irq rest)
-printed-fed Done irq rest = next refl (next refl (irq-last irq rest))
-printed-fed (Byte b) irq rest = next refl (next refl (pair (b / 16) b (irq-last irq rest)))
-printed-fed (Refused r) irq rest = next refl (next refl (next refl (next (plain-hex (number r)) feed)))
+printed-fed v irq rest = search (either (λ l. Fed (l ++ rest) rest), feed, next, plain-hex, plain-flag) depth 40
 
 told-fed : (l : Line) (s : System) (rest : List ℕ) → Fed (told l s ++ rest) rest
-told-fed (Called c) s rest = printed-fed (performed c s .answer) (performed c s .irq) rest
+told-fed (Called c) s rest = printed-fed (values (performed c s .answer)) (performed c s .irq) rest
 told-fed Bad s rest = next refl (next refl (next refl feed))
 
 pub line-for-line : (ls : List (List ℕ)) (s : System) → length (lines (answers ls s)) ≡ length ls

@@ -16,9 +16,9 @@ use lib.ListN.{length, take, set, length-set}
 use lib.Seq.{take-all, take-suc-set, take-at, append-snoc, length-take-le}
 use native.Mathlib.Numerals.{add-one}
 use borrow.Author.Tests.{ne-eqb, ltb-true, ltb-false}
+use Rattle.chip.specs.Answer.{values}
 use Rattle.chip.specs.Call.{performed}
-use Rattle.chip.specs.declared.answer.Answer.{Answer}
-use Rattle.chip.specs.declared.answer.Answer.the-variants.{Refused, Done, Byte, Mapped, Violation, Undefined}
+use Rattle.chip.specs.declared.answer.Values.{Values}
 use Rattle.chip.specs.declared.system.System.{System}
 use Rattle.lines.specs.Line.{start-form, write-form, read-form, access-form, acknowledge-form, meaning}
 use Rattle.lines.specs.Text.{room, empty, is-empty, pushed, with-bytes, text, held, printed}
@@ -113,17 +113,16 @@ meaning-held l = rw (held-text l) (go (ltb room (length l)) refl)
 
 -- ---- what is printed
 
-printed-short : (a : Answer) (irq : Bool) → length (printed a irq) ≤ room
+pub either : (P : List ℕ → Type 0) (b : Bool) (l r : List ℕ) → P l → P r → P (cond b l r)
+either P true l r p q = p
+either P false l r p q = q
+
+printed-short : (v : Values) (irq : Bool) → length (printed v irq) ≤ room
 unfolding printed
-printed-short (Refused r) irq = lit≤ tt
-printed-short Done irq = lit≤ tt
-printed-short (Byte b) irq = lit≤ tt
-printed-short (Mapped a u d w) irq = lit≤ tt
-printed-short (Violation u d w) irq = lit≤ tt
-printed-short Undefined irq = lit≤ tt
+printed-short v irq = search (either (λ l. length l ≤ room), lit≤) depth 8
 
 told-short : (l : Line) (s : System) → length (told l s) ≤ room
-told-short (Called c) s = printed-short (performed c s .answer) (performed c s .irq)
+told-short (Called c) s = printed-short (values (performed c s .answer)) (performed c s .irq)
 told-short Bad s = lit≤ tt
 
 pub told-held : (l : Line) (s : System) → held (text (told l s)) ≡ told l s

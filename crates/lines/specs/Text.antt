@@ -1,12 +1,11 @@
 -- A line of the bench as it is held, and what an answer prints as: document 01, "The bench program".
 use Prim.Native.Nat.{ℕ, _+_, _/_, _%_, _^_}
-use mathlib.Core.Bool.{Bool, cond}
+use mathlib.Core.Bool.{Bool, not, cond}
 use mathlib.Core.List.{List, [], _∷_, _++_}
 use lib.Dec.{eqb, ltb}
 use lib.ListN.{getD, take, set, replicate}
-use Rattle.chip.specs.Answer.{number}
-use Rattle.chip.specs.declared.answer.Answer.{Answer}
-use Rattle.chip.specs.declared.answer.Answer.the-variants.{Refused, Done, Byte, Mapped, Violation, Undefined}
+use Rattle.chip.specs.Answer.{byte-read, mapped, violating, undefined}
+use Rattle.chip.specs.declared.answer.Values.{Values}
 use Rattle.lines.specs.Ascii.{ascii, byte}
 use Rattle.lines.specs.declared.text.Text.{Text}
 
@@ -50,16 +49,23 @@ hex-address a =
 abbrev pub flag : Bool → ℕ
 flag b = cond b (byte "1") (byte "0")
 
+-- IRQ ends the line of any answer that is no refusal
+abbrev pub ended : (irq : Bool) → List ℕ
+ended irq = ascii " " ++ flag irq ∷ ascii "\n"
+
+-- P and V end alike: unit, descriptor, WIN, IRQ
+abbrev pub place : Values → (irq : Bool) → List ℕ
+place v irq = hex-digit (v .unit) ∷ ascii " " ++ hex-byte (v .descriptor) ++ ascii " " ++ flag (v .win) ∷ ended irq
+
 -- "P: physical address, unit, descriptor (hex), WIN, IRQ. V: unit, descriptor, WIN, IRQ. U, ok: IRQ. =: byte, IRQ. no: refusal."
-unfoldable pub printed : Answer → (irq : Bool) → List ℕ
-printed (Mapped a u d w) irq =
-    ascii "P " ++ hex-address a ++ ascii " " ++ hex-digit u ∷ ascii " " ++ hex-byte d ++ ascii " " ++ flag w ∷ ascii " " ++ flag irq ∷ ascii "\n"
-printed (Violation u d w) irq =
-    ascii "V " ++ hex-digit u ∷ ascii " " ++ hex-byte d ++ ascii " " ++ flag w ∷ ascii " " ++ flag irq ∷ ascii "\n"
-printed Undefined irq = ascii "U " ++ flag irq ∷ ascii "\n"
-printed Done irq = ascii "ok " ++ flag irq ∷ ascii "\n"
-printed (Byte b) irq = ascii "= " ++ hex-byte b ++ ascii " " ++ flag irq ∷ ascii "\n"
-printed (Refused r) irq = ascii "no " ++ hex-digit (number r) ∷ ascii "\n"
+unfoldable pub printed : Values → (irq : Bool) → List ℕ
+printed v irq =
+    cond (not (eqb (v .number) 0)) (ascii "no " ++ hex-digit (v .number) ∷ ascii "\n")
+    (cond (eqb (v .kind) mapped) (ascii "P " ++ hex-address (v .address) ++ ascii " " ++ place v irq)
+    (cond (eqb (v .kind) violating) (ascii "V " ++ place v irq)
+    (cond (eqb (v .kind) undefined) (ascii "U" ++ ended irq)
+    (cond (eqb (v .kind) byte-read) (ascii "= " ++ hex-byte (v .byte) ++ ended irq)
+    (ascii "ok" ++ ended irq)))))
 
 -- a line that means nothing
 abbrev pub bad : List ℕ

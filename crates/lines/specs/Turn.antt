@@ -3,6 +3,7 @@ use Prim.Native.Nat.{ℕ}
 use mathlib.Core.Bool.{cond}
 use mathlib.Core.List.{List, [], _∷_, _++_}
 use lib.Dec.{eqb}
+use Rattle.chip.specs.Answer.{values}
 use Rattle.chip.specs.Call.{performed}
 use Rattle.chip.specs.Reset.{nothing}
 use Rattle.chip.specs.declared.system.System.{System}
@@ -15,7 +16,7 @@ use Rattle.lines.specs.declared.turn.Turn.{Turn}
 
 -- what is printed for a line, and the system after it: a bad line changes nothing
 abbrev pub told : Line → System → List ℕ
-told (Called c) s = printed (performed c s .answer) (performed c s .irq)
+told (Called c) s = printed (values (performed c s .answer)) (performed c s .irq)
 told Bad s = bad
 
 abbrev pub left : Line → System → System

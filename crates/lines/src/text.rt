@@ -1,10 +1,12 @@
 // A line of the bench as it is held, and what an answer prints as: document 01, "The bench program".
 ghost use Prim.Native.Nat.{_<_, _^_, min};
 ghost use mathlib.Core.Path.{_≡_};
+ghost use mathlib.Core.List.{_++_};
 ghost use lib.ListN.{length};
-ghost use Rattle.chip.specs.declared.answer.Answer.the-variants.{Byte, Mapped, Violation};
-ghost use Rattle.lines.specs.Text.{empty, is-empty, pushed, with-bytes, text, hex-digit, flag, printed, bad};
-use chip::answer::Answer;
+ghost use Rattle.lines.specs.Ascii.{ascii};
+ghost use Rattle.lines.specs.Text.{empty, is-empty, pushed, with-bytes, text, hex-digit, hex-byte, hex-address, flag, ended, place, printed, bad};
+use chip::answer;
+use chip::answer::Values;
 
 // Room for the longest line that is printed, and for more than the longest that has a meaning.
 pub const ROOM: usize = 18;
@@ -43,14 +45,19 @@ impl Text {
         self
     }
 
+    fn with_bytes(mut self, bytes: &[u8]) -> Text
+        ensures { λ r. ⌜ r ≡ with-bytes self (now (bytes .entry)) ⌝ }
+    {
+        for i in 0..bytes.len() {
+            self = self.push(bytes[i]);
+        }
+        self
+    }
+
     fn of(bytes: &[u8]) -> Text
         ensures { λ r. ⌜ r ≡ text (now (bytes .entry)) ⌝ }
     {
-        let mut text = Text::new();
-        for i in 0..bytes.len() {
-            text = text.push(bytes[i]);
-        }
-        text
+        Text::new().with_bytes(bytes)
     }
 }
 
@@ -74,8 +81,34 @@ fn flag(b: bool) -> u8
     if b { b'1' } else { b'0' }
 }
 
-fn mapped(address: u32, unit: u8, descriptor: u8, win: bool, irq: bool) -> Text
-    ensures { λ r. ⌜ r ≡ text (printed (Mapped address unit descriptor win) irq) ⌝ }
+// How the lines of answers end: with IRQ; P and V with the unit, the descriptor and WIN before it.
+impl Text {
+    fn ended(self, irq: bool) -> Text
+        ensures { λ r. ⌜ r ≡ with-bytes self (ended irq) ⌝ }
+    {
+        self.with_bytes(&[b' ', flag(irq), b'\n'])
+    }
+
+    fn place(self, values: Values, irq: bool) -> Text
+        ensures { λ r. ⌜ r ≡ with-bytes self (place values irq) ⌝ }
+    {
+        let text = self.with_bytes(
+            &[
+                hex_digit(values.unit as u32),
+                b' ',
+                hex_digit((values.descriptor / 16) as u32),
+                hex_digit(values.descriptor as u32),
+                b' ',
+                flag(values.win),
+            ],
+        );
+        text.ended(irq)
+    }
+}
+
+// And how two of them begin.
+fn mapped(address: u32) -> Text
+    ensures { λ r. ⌜ r ≡ text (ascii "P " ++ hex-address address ++ ascii " ") ⌝ }
 {
     Text::of(
         &[
@@ -88,41 +121,12 @@ fn mapped(address: u32, unit: u8, descriptor: u8, win: bool, irq: bool) -> Text
             hex_digit(address / 16),
             hex_digit(address),
             b' ',
-            hex_digit(unit as u32),
-            b' ',
-            hex_digit((descriptor / 16) as u32),
-            hex_digit(descriptor as u32),
-            b' ',
-            flag(win),
-            b' ',
-            flag(irq),
-            b'\n',
         ],
     )
 }
 
-fn violation(unit: u8, descriptor: u8, win: bool, irq: bool) -> Text
-    ensures { λ r. ⌜ r ≡ text (printed (Violation unit descriptor win) irq) ⌝ }
-{
-    Text::of(
-        &[
-            b'V',
-            b' ',
-            hex_digit(unit as u32),
-            b' ',
-            hex_digit((descriptor / 16) as u32),
-            hex_digit(descriptor as u32),
-            b' ',
-            flag(win),
-            b' ',
-            flag(irq),
-            b'\n',
-        ],
-    )
-}
-
-fn read(byte: u8, irq: bool) -> Text
-    ensures { λ r. ⌜ r ≡ text (printed (Byte byte) irq) ⌝ }
+fn read(byte: u8) -> Text
+    ensures { λ r. ⌜ r ≡ text (ascii "= " ++ hex-byte byte) ⌝ }
 {
     Text::of(
         &[
@@ -130,9 +134,6 @@ fn read(byte: u8, irq: bool) -> Text
             b' ',
             hex_digit((byte / 16) as u32),
             hex_digit(byte as u32),
-            b' ',
-            flag(irq),
-            b'\n',
         ],
     )
 }
@@ -144,26 +145,18 @@ pub fn bad() -> Text
     Text::of(b"bad\n")
 }
 
-pub fn print(answer: Answer, irq: bool) -> Text
-    ensures { λ r. ⌜ r ≡ text (printed answer irq) ⌝ }
+pub fn print(values: Values, irq: bool) -> Text
+    ensures { λ r. ⌜ r ≡ text (printed values irq) ⌝ }
 {
-    match answer {
-        Answer::Mapped {
-            address,
-            unit,
-            descriptor,
-            win,
-        } => mapped(address, unit, descriptor, win, irq),
-        Answer::Violation {
-            unit,
-            descriptor,
-            win,
-        } => violation(unit, descriptor, win, irq),
-        Answer::Undefined => Text::of(&[b'U', b' ', flag(irq), b'\n']),
-        Answer::Done => Text::of(&[b'o', b'k', b' ', flag(irq), b'\n']),
-        Answer::Byte(byte) => read(byte, irq),
-        Answer::Refused(refusal) => {
-            Text::of(&[b'n', b'o', b' ', hex_digit(refusal.number() as u32), b'\n'])
-        }
+    if values.number != 0 {
+        return Text::of(&[b'n', b'o', b' ', hex_digit(values.number as u32), b'\n']);
+    }
+    let kind = values.kind;
+    match kind {
+        answer::MAPPED => mapped(values.address).place(values, irq),
+        answer::VIOLATION => Text::of(b"V ").place(values, irq),
+        answer::UNDEFINED => Text::of(b"U").ended(irq),
+        answer::BYTE => read(values.byte).ended(irq),
+        _ => Text::of(b"ok").ended(irq),
     }
 }

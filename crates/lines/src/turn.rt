@@ -29,7 +29,7 @@ pub fn answer(line: Text, system: System) -> Turn
         Line::Called(call) => {
             let outcome = system.perform(call);
             let answer = outcome.answer;
-            let text = crate::text::print(answer, outcome.irq);
+            let text = crate::text::print(answer.values(), outcome.irq);
             let system = outcome.system;
             Turn { text, system }
         }

@@ -8,9 +8,10 @@ returns : tie.Need-returns
 returns c =
     rw (
       c .before .print .ensures,
-      c .before .before .perform .ensures,
-      ← c .before .before .before .before .before .before .read .ensures,
-      c .before .before .before .before .call .given .1,
+      c .before .before .values .ensures,
+      c .before .before .before .perform .ensures,
+      ← c .before .before .before .before .before .before .before .read .ensures,
+      c .before .before .before .before .before .call .given .1,
     )
 
 returns-2 : tie.Need-returns-2
@@ -20,4 +21,4 @@ pub answer-spec : {M : Type 1} → statement M
 answer-spec =
     tie.close
     (tie.spec
-    free (λ c. search needs) free free (λ c. search needs) free returns returns-2)
+    free (λ c. search needs) free free free (λ c. search needs) free returns returns-2)

@@ -1,38 +1,7 @@
--- `of` meets its contract: what is left is still to be pushed. Assumes nothing.
-use Prim.Native.Nat.{_≤_, _-_}
-use mathlib.Core.Path.{_≡_, refl, sym, _∙_}
-use native.Mathlib.Omega.{arith}
-use native.Mathlib.Numerals.{add-one}
-use lib.ListN.{length, drop}
-use lib.Seq.{drop-cons, drop-length}
+-- `of` meets its contract: from an empty text on. Assumes nothing.
 use Rattle.masks.proofs.Free.{free}
-use Rattle.lines.specs.Text.{with-bytes, text}
 use Rattle.lines.proofs.text.Text.of.Statement.{statement}
 use Rattle.lines.proofs.text.Text.of.Tie as tie
 
-abbrev Inv-loop : tie.InvT-loop
-Inv-loop bytes text₀ i₀ i-end t i = (i-end ≡ length bytes) × (i ≤ i-end) × (text bytes ≡ with-bytes t (drop i bytes))
-
-abbrev μ-loop : tie.MeasureT-loop
-μ-loop bytes text₀ i₀ i-end t i = i-end - i
-
-loop-holds : tie.Need-loop-holds Inv-loop μ-loop
-loop-holds c = (refl, omega arith, rw (c .new .ensures))
-
-loop-again : tie.Need-loop-again Inv-loop μ-loop
-loop-again c =
-    let at = c .before .before .before .loop in
-    let bytes = c .before .before .before .before .before .before .args .bytes .now in
-    (at .inv .0, omega arith, at .inv .2 ∙ rw (drop-cons bytes (at .i) 0 (omega arith), c .push .ensures, add-one) refl)
-
-returns : tie.Need-returns Inv-loop μ-loop
-returns c =
-    let at = c .before .loop in
-    let bytes = c .before .before .before .before .args .bytes .now in
-    let all : at .i ≡ length bytes = omega (arith, at .inv .0) in
-    sym (at .inv .2 ∙ rw (all, drop-length bytes) refl)
-
 pub of-spec : {M : Type 1} → statement M
-of-spec =
-    tie.close
-    (tie.spec Inv-loop μ-loop free loop-holds (λ c. omega arith) free (λ c. omega arith) (λ c. omega arith) loop-again returns)
+of-spec = tie.close (tie.spec free free (λ c. rw (c .with-bytes .ensures, c .before .new .ensures)))
