@@ -9,7 +9,7 @@
 # A function's proof uses its own body and the contracts of what it calls. So a mistake in a body moves that function's proof
 # and nothing else. Any other change moves all that mentions what was changed, at one remove or several: definitions, laws, the
 # functions whose contract or proof does, and those that call one whose contract does. Names are compared without their module,
-# so more counts as moved than is.
+# and names bound in a term count, too, so more counts as moved than is.
 #
 # Printed, with tabs: 'mistake' LABEL NAME PLACE DECLARATION body|definition, and 'fault' LABEL WHY.
 
@@ -42,7 +42,7 @@ function mention(user, line,   list, n, i, name) { # a law, a definition, or a f
 
 function open_item(name) {
     item = rel "#" name
-    if (!(item in name_of)) { name_of[item] = name; items[++item_count] = item }
+    if (!(item in name_of)) { name_of[item] = name; file_of[item] = rel; items[++item_count] = item }
 }
 
 FNR == 1 {
@@ -132,6 +132,7 @@ kind == "antt" && !/^use / && !/^ *--/ && !/^ *$/ {
             if (line !~ /^(unfolding |[})\]])/) {
                 match(line, /^[^ :(){}]+/)
                 open_item(substr(line, 1, RLENGTH))
+                if ($0 ~ /^ *((abbrev|unfoldable) )*pub /) public[item] = 1
                 if (sections > 0) mention(item, section_line[sections])
             }
         } else if (data && match($0, /^ +[^ :(){}]+ :/)) {
@@ -172,6 +173,16 @@ function move(what) { if (!(what in moved)) { moved[what] = 1; queue[++queued] =
 
 function move_all(list,   one, n, i) { n = split(list, one, " "); for (i = 1; i <= n; i++) move(one[i]) }
 
+# what mentions a name of this item: in its own file alone where it is not 'pub'; and no definition mentions a law
+function move_users(item, name,   one, n, i) {
+    n = split(users[name], one, " ")
+    for (i = 1; i <= n; i++) {
+        if (!(item in public) && file_of[one[i]] != file_of[item]) continue
+        if (file_of[item] ~ /^proofs\// && file_of[one[i]] ~ /^specs\//) continue
+        move(one[i])
+    }
+}
+
 # a function whose contract says something else: its proof, and those of its callers
 function move_contract(f) {
     if (f in contract_moved) return
@@ -209,8 +220,8 @@ function close_over(m,   c, done, t, n, i, list, f) {
         if (!(t in name_of)) continue
         n = split(name_of[t] also[t], list, " ")
         for (i = 1; i <= n; i++) {
-            move_all(users[list[i]])
-            for (f = 1; f <= function_count; f++) if ((functions[f], list[i]) in cited) move_contract(functions[f])
+            move_users(t, list[i])
+            if (t ~ /^specs\//) for (f = 1; f <= function_count; f++) if ((functions[f], list[i]) in cited) move_contract(functions[f])
         }
     }
 }

@@ -15,7 +15,7 @@ pub data Event : Type 0 where
   -- a write violation at descriptor n of unit m
   write-violation : (m n : ℕ) → Event
   -- an undefined segment access, by a read or not
-  undefined-access : (read : Bool) → Event
+  undefined-access : (reads : Bool) → Event
   -- a direct translation, and where the match is
   translation : Found → Event
   -- a load that is refused, and where each unit's lowest collision is; one that is granted
@@ -33,7 +33,7 @@ status u = (u .l, u .rdp, u .rw)
 -- a read, in all units; a load and a direct translation leave it
 abbrev pub leaves : Event → (k : ℕ) (rw : Bool) → Status
 leaves (write-violation m n) k rw = cond (eqb k m) (WV, n, false) (NO, none, false)
-leaves (undefined-access read) k rw = (USA, none, read)
+leaves (undefined-access reads) k rw = (USA, none, reads)
 leaves (translation (At i)) k rw = cond (eqb k (i / 32)) (DT, i % 32, rw) (NO, none, rw)
 leaves (translation Nowhere) k rw = (NO, none, rw)
 leaves (load-refused lowest) k rw = concerned (lowest k)
