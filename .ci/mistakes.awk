@@ -11,7 +11,8 @@
 # functions whose contract or proof does, and those that call one whose contract does. Names are compared without their module,
 # and names bound in a term count, too, so more counts as moved than is.
 #
-# Printed, with tabs: 'mistake' LABEL NAME PLACE DECLARATION body|definition, and 'fault' LABEL WHY.
+# Printed, with tabs: 'mistake' LABEL NAME PLACE DECLARATION, 'moves' LABEL WHAT, and 'fault' LABEL WHY. WHAT is a function by the
+# folder of its proof, FILE#DECLARATION, or * for all there is.
 
 function relative(path) { sub(/^crates\/[^\/]*\//, "", path); return path }
 
@@ -248,8 +249,10 @@ END {
             if (name[k] == name[m]) fault(label_of[m], name[m] ": two mistakes have this name")
             for (f = 1; f <= function_count; f++) if (((m, functions[f]) in stands) && ((k, functions[f]) in stands)) fault(label_of[m], name[m] " and " name[k] " stand in one function, " functions[f])
             count = places_of(k, there)
-            for (i = 1; i <= count; i++) if (whole[m] || there[i] in moved) fault(label_of[m], name[m] " moves the place of " name[k] ", " there[i])
+            for (i = 1; i <= count; i++) if (whole[m] || (there[i] in moved)) fault(label_of[m], name[m] " moves the place of " name[k] ", " there[i])
         }
-        print "mistake\t" label_of[m] "\t" name[m] "\t" place[m] "\t" decl[m] "\t" (is_body[m] ? "body" : "definition")
+        print "mistake\t" label_of[m] "\t" name[m] "\t" place[m] "\t" decl[m]
+        for (t in moved) print "moves\t" label_of[m] "\t" t
+        if (whole[m]) print "moves\t" label_of[m] "\t*"
     }
 }
