@@ -13,13 +13,13 @@ use Rattle.chip.specs.Answer.{values}
 use Rattle.chip.specs.Call.{performed}
 use Rattle.chip.specs.declared.answer.Values.{Values}
 use Rattle.chip.specs.declared.system.System.{System}
+use Rattle.chip.proofs.Checked.{either}
 use Rattle.lines.specs.Ascii.{ascii, line-feed}
 use Rattle.lines.specs.Line.{meaning}
 use Rattle.lines.specs.Text.{hex-digit, flag, printed}
 use Rattle.lines.specs.Turn.{told, left, longer, lines, answers}
 use Rattle.lines.specs.declared.line.Line.{Line}
 use Rattle.lines.specs.declared.line.Line.the-variants.{Called, Bad}
-use Rattle.lines.proofs.Texts.{either}
 
 -- the lines of an input, of which these bytes came before
 abbrev pub begun : (line : List ℕ) → List (List ℕ) → List (List ℕ)
@@ -79,7 +79,7 @@ fed-lines (next {c} {l} {rest} e f) = rw e (go (lines l) (fed-lines f))
 
 printed-fed : (v : Values) (irq : Bool) (rest : List ℕ) → Fed (printed v irq ++ rest) rest
 unfolding printed
-printed-fed v irq rest = search (either (λ l. Fed (l ++ rest) rest), feed, next, plain-hex, plain-flag) depth 40
+printed-fed v irq rest = search (either (λ (l : List ℕ). Fed (l ++ rest) rest), feed, next, plain-hex, plain-flag) depth 40
 
 told-fed : (l : Line) (s : System) (rest : List ℕ) → Fed (told l s ++ rest) rest
 told-fed (Called c) s rest = printed-fed (values (performed c s .answer)) (performed c s .irq) rest

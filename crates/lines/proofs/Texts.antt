@@ -20,6 +20,7 @@ use Rattle.chip.specs.Answer.{values}
 use Rattle.chip.specs.Call.{performed}
 use Rattle.chip.specs.declared.answer.Values.{Values}
 use Rattle.chip.specs.declared.system.System.{System}
+use Rattle.chip.proofs.Checked.{either}
 use Rattle.lines.specs.Line.{start-form, write-form, read-form, access-form, acknowledge-form, meaning}
 use Rattle.lines.specs.Text.{room, empty, is-empty, pushed, with-bytes, text, held, printed}
 use Rattle.lines.specs.Turn.{told}
@@ -113,13 +114,9 @@ meaning-held l = rw (held-text l) (go (ltb room (length l)) refl)
 
 -- ---- what is printed
 
-pub either : (P : List ℕ → Type 0) (b : Bool) (l r : List ℕ) → P l → P r → P (cond b l r)
-either P true l r p q = p
-either P false l r p q = q
-
 printed-short : (v : Values) (irq : Bool) → length (printed v irq) ≤ room
 unfolding printed
-printed-short v irq = search (either (λ l. length l ≤ room), lit≤) depth 8
+printed-short v irq = search (either (λ (l : List ℕ). length l ≤ room), lit≤) depth 8
 
 told-short : (l : Line) (s : System) → length (told l s) ≤ room
 told-short (Called c) s = printed-short (values (performed c s .answer)) (performed c s .irq)
