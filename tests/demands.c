@@ -10,7 +10,9 @@
  *   4  bytes that are marked in two units are equal, IP stands only beside E,
  *      and no bit is set that no register has;
  *   5  a refusal is given exactly when the header's table says, is nothing but
- *      its number, and leaves every byte.
+ *      its number, and leaves every byte;
+ *   6  bytes past 4,096 are the host's own: between any two calls here it writes
+ *      them, and lends more or fewer of them, and all the rest holds.
  *
  * Nothing is compared with the model.  Only mix, which plans the calls, sees
  * the block as a state of the model. */
@@ -62,6 +64,9 @@ enum {
     SEEN_PENDING,
     SEEN_PAIRS,
     SEEN_TRIED,
+    SEEN_MORE,
+    SEEN_FEWER,
+    SEEN_ALL,
     SEEN_END
 };
 
@@ -75,6 +80,7 @@ static const char *const seen_names[SEEN_END] = {
     "accesses that stayed mapped", "accesses that stayed violations", "undefined accesses that got an answer",
     "bytes marked in two units", "bytes marked in one of two units", "descriptors with IP",
     "pairs compared", "pairs tried with every page and number",
+    "calls lent more bytes than the call before", "calls lent fewer", "calls lent the whole room",
 };
 
 static unsigned long seen[SEEN_END];
@@ -506,21 +512,62 @@ static void refused_exactly(unsigned due, uint64_t answer)
 }
 
 /* ------------------------------------------------------------------ */
+/* Sentence 6                                                          */
+/* ------------------------------------------------------------------ */
+
+static void random_bytes(uint8_t *to, size_t length)
+{
+    uint64_t some = 0;
+    for (size_t i = 0; i < length; i++) {
+        some = i % 8 == 0 ? mix_random(&calls) : some >> 8;
+        to[i] = (uint8_t)some;
+    }
+}
+
+/* Often no more than need be, seldom too few, and then often by one. */
+static size_t some_length(size_t own)
+{
+    if (mix_below(&calls, 200) == 0)
+        return mix_below(&calls, 2) ? BLOCK - 1 : mix_below(&calls, BLOCK);
+    if (mix_below(&calls, 64) == 0)
+        return BLOCK + own;
+    return BLOCK + (mix_below(&calls, 2) ? 0 : mix_below(&calls, (unsigned)own + 1));
+}
+
+static void lend_anew(void)
+{
+    size_t own = ROOM - at - BLOCK, last = bytes;
+    random_bytes(room + at + BLOCK, own);
+    bytes = some_length(own);
+    if (!reached || last < BLOCK || bytes < BLOCK)
+        return;
+    seen[SEEN_MORE] += bytes > last;
+    seen[SEEN_FEWER] += bytes < last;
+    seen[SEEN_ALL] += bytes == BLOCK + own;
+}
+
+/* ------------------------------------------------------------------ */
 /* Histories                                                           */
 /* ------------------------------------------------------------------ */
+
+static bool is_start(call c)
+{
+    return c.name == CALL_START || c.name == CALL_RESET;
+}
 
 static bool is_load(call c)
 {
     return c.name == CALL_REGISTER && c.number[1] == CLEFTROMI_LOAD && c.number[2] == CLEFTROMI_READ;
 }
 
-/* Makes a call and checks all that is said of it.  "fresh" if the block may
- * have been anything before. */
-static void make(call c, bool fresh)
+/* Makes a call and checks all that is said of it.  Before a start or a reset
+ * the block may have been anything. */
+static void make(call c)
 {
     uint8_t *block = room + at, *old = before + at;
     now = c;
     made++;
+    lend_anew();
     memcpy(before, room, ROOM);
     unsigned due = refusal_due(c, old);
     uint64_t answer = call_library(c, block, bytes);
@@ -528,11 +575,12 @@ static void make(call c, bool fresh)
     if (due != 0)
         return;
     no_stray_bit(block);
+    reached = reached || is_start(c);
     if (!reached)
         return;
     if (is_load(c)) /* first, for else a load that must not be granted is seen by what it leaves */
         load_exactly(old, block, answer);
-    one_match(fresh || made % 64 == 0 ? NULL : old, block);
+    one_match(is_start(c) || made % 64 == 0 ? NULL : old, block);
     marks_alike(block);
     seen[SEEN_UNITS + block[0]]++;
 }
@@ -544,16 +592,6 @@ static const model *planned(void)
     return &m;
 }
 
-/* Sometimes longer than it need be, seldom too short, and then often by one. */
-static void vary_length(void)
-{
-    bytes = BLOCK;
-    if (mix_below(&calls, 4) == 0)
-        bytes += mix_below(&calls, (unsigned)(ROOM - at - BLOCK));
-    if (mix_below(&calls, 200) == 0)
-        bytes = mix_below(&calls, 2) ? BLOCK - 1 : mix_below(&calls, BLOCK);
-}
-
 /* Puts the numbers of some segments into the table, by calls: sentence 3 has
  * accesses that hit something before the load only if the table lets them. */
 static void aim_table(const uint8_t *block, segment wanted)
@@ -561,17 +599,16 @@ static void aim_table(const uint8_t *block, segment wanted)
     for (unsigned n = mix_below(&calls, 4); n > 0; n--) {
         uint8_t number = (uint8_t)number_under(n == 3 ? wanted : some_segment(block));
         call c = {CALL_REGISTER, {0, CLEFTROMI_AST(mix_below(&calls, 16)), CLEFTROMI_WRITE}, number};
-        make(c, false);
+        make(c);
     }
 }
 
 static void step(call c)
 {
     const uint8_t *block = room + at;
-    vary_length();
-    if (is_load(c) && refusal_due(c, block) == 0)
+    if (is_load(c) && c.number[0] < block[0])
         aim_table(block, segment_wanted(unit_at(block, (unsigned)c.number[0])));
-    make(c, false);
+    make(c);
 }
 
 /* Loads what some unit's accumulator has, but for one bit: just apart from what
@@ -619,14 +656,11 @@ static void noise(void)
 {
     reached = false;
     at = GUARD + mix_below(&calls, 64);
-    for (size_t i = 0; i < ROOM; i++)
-        room[i] = (uint8_t)mix_random(&calls);
+    random_bytes(room, ROOM);
     if (mix_below(&calls, 2))
         room[at] = (uint8_t)(1 + mix_below(&calls, UNITS));
-    for (unsigned n = mix_below(&calls, 4); n > 0; n--) {
-        vary_length();
-        make(on_noise(), false);
-    }
+    for (unsigned n = mix_below(&calls, 4); n > 0; n--)
+        make(on_noise());
 }
 
 static void history(void)
@@ -639,9 +673,8 @@ static void history(void)
         noise();
     if (by_reset)
         room[at] = (uint8_t)count;
-    bytes = BLOCK;
-    reached = true;
-    make(by_reset ? reset : start, true);
+    for (reached = false; !reached;) /* it may be lent too short */
+        make(by_reset ? reset : start);
     histories++;
 }
 
