@@ -12,7 +12,10 @@
  *   5  a refusal is given exactly when the header's table says, is nothing but
  *      its number, and leaves every byte;
  *   6  bytes past 4,096 are the host's own: between any two calls here it writes
- *      them, and lends more or fewer of them, and all the rest holds.
+ *      them, and lends more or fewer of them, and all the rest holds;
+ *   7  after a fault, a load and a direct translation L7 to L4, RDP and RW of
+ *      every unit are those of this event (docs/PROVED.md, "What an event
+ *      leaves"), which is worked out from the block before the call.
  *
  * Nothing is compared with the model.  Only mix, which plans the calls, sees
  * the block as a state of the model. */
@@ -67,6 +70,7 @@ enum {
     SEEN_MORE,
     SEEN_FEWER,
     SEEN_ALL,
+    SEEN_TWO_CLASH,
     SEEN_END
 };
 
@@ -81,13 +85,44 @@ static const char *const seen_names[SEEN_END] = {
     "bytes marked in two units", "bytes marked in one of two units", "descriptors with IP",
     "pairs compared", "pairs tried with every page and number",
     "calls lent more bytes than the call before", "calls lent fewer", "calls lent the whole room",
+    "units with two descriptors or more that a refused load clashes with",
 };
 
 static unsigned long seen[SEEN_END];
 
-static int report(void)
+/* The rows of the table of events; undefined accesses by their direction. */
+enum { VIOLATION, UNDEFINED_READ, UNDEFINED_WRITE, LOAD_REFUSED, LOAD_GRANTED, TRANSLATED, NOT_TRANSLATED, EVENTS };
+
+static const char *const event_names[EVENTS] = {
+    "violations", "undefined reads", "undefined writes", "refused loads", "granted loads", "direct translations",
+    "direct translations without a match",
+};
+
+/* Of each how many, and how many units without a descriptor of the event had
+ * something else before: what a stale neighbour would still have. */
+enum { HAPPENED, OTHER_L, OTHER_RDP, OTHER_RW, NOTED };
+
+static const char *const noted_names[NOTED] = {"", "units with another L before", "with another RDP",
+                                               "with RW to be changed, or to be kept at 1"};
+
+static unsigned long events[EVENTS][NOTED];
+
+static const char *report_events(void)
 {
     const char *missing = NULL;
+    for (unsigned row = 0; row < EVENTS; row++)
+        for (unsigned i = 0; i < NOTED; i++) {
+            printf("%s%lu %s", i > 0 ? ", " : "", events[row][i], i > 0 ? noted_names[i] : event_names[row]);
+            printf("%s", i + 1 < NOTED ? "" : "\n");
+            if (events[row][i] == 0)
+                missing = event_names[row];
+        }
+    return missing;
+}
+
+static int report(void)
+{
+    const char *missing = report_events();
     for (unsigned i = 1; i < SEEN_END; i++) {
         printf("%s%lu %s", i > 1 ? ", " : "", seen[i], seen_names[i]);
         if (seen[i] == 0)
@@ -117,6 +152,7 @@ static void must(bool good, const char *sentence)
 #define AC7 7u
 #define MARKS 9u
 #define DP 11u
+#define LSR 12u
 #define RDP 13u
 #define SSR 7u
 
@@ -351,6 +387,143 @@ static bool load_harmless(const uint8_t *old, const uint8_t *block, segment want
 }
 
 /* ------------------------------------------------------------------ */
+/* Sentence 7                                                          */
+/* ------------------------------------------------------------------ */
+
+/* What each unit has of an event. */
+typedef struct {
+    unsigned row;
+    uint8_t l[UNITS], rdp[UNITS], rw[UNITS];
+} event;
+
+/* No unit has a part in it, and RW is as before. */
+static event nobodys_event(const uint8_t *old, unsigned row)
+{
+    event e = {row, {0}, {0}, {0}};
+    memset(e.l, CLEFTROMI_L_NONE, UNITS);
+    memset(e.rdp, CLEFTROMI_NO_DESCRIPTOR, UNITS);
+    for (unsigned k = 0; k < old[0]; k++)
+        e.rw[k] = unit_at(old, k)[LSR] & CLEFTROMI_LSR_RW;
+    return e;
+}
+
+static void give_part(event *e, unsigned place, uint8_t l)
+{
+    e->l[place / 32] = l;
+    e->rdp[place / 32] = (uint8_t)(place % 32);
+}
+
+static event undefined_event(const uint8_t *old, bool write)
+{
+    event e = nobodys_event(old, write ? UNDEFINED_WRITE : UNDEFINED_READ);
+    memset(e.l, CLEFTROMI_L_UNDEFINED, UNITS);
+    memset(e.rw, write ? 0 : CLEFTROMI_LSR_RW, UNITS);
+    return e;
+}
+
+static event violation_event(const uint8_t *old, unsigned place)
+{
+    event e = nobodys_event(old, VIOLATION);
+    give_part(&e, place, CLEFTROMI_L_VIOLATION);
+    memset(e.rw, 0, UNITS);
+    return e;
+}
+
+/* The segment is that of the selected unit's accumulator, "place" where it is
+ * to go.  One that does not ask to be enabled clashes with nothing. */
+static event load_event(const uint8_t *old, segment wanted, unsigned place, bool asks)
+{
+    event e = nobodys_event(old, LOAD_GRANTED);
+    for (unsigned k = 0; asks && k < old[0]; k++) {
+        unsigned end = 32 * k + 32, lowest = clashing(old, wanted, place, 32 * k, end);
+        if (lowest == end)
+            continue;
+        e.row = LOAD_REFUSED;
+        give_part(&e, lowest, CLEFTROMI_L_CLASH);
+        seen[SEEN_TWO_CLASH] += clashing(old, wanted, place, lowest + 1, end) != end;
+    }
+    return e;
+}
+
+/* The enabled descriptor from "from" up that matches first, or the end. */
+static unsigned first_match(const uint8_t *block, unsigned from, unsigned page, unsigned number)
+{
+    unsigned end = places(block);
+    for (unsigned i = from; i < end; i++)
+        if (enabled(block, i) && matches(segment_at(block, i), page, number))
+            return i;
+    return end;
+}
+
+static event translation_event(const uint8_t *old, unsigned m)
+{
+    segment asked = segment_wanted(unit_at(old, m));
+    unsigned place = first_match(old, 0, asked.page, asked.number);
+    event e = nobodys_event(old, place == places(old) ? NOT_TRANSLATED : TRANSLATED);
+    if (e.row == TRANSLATED)
+        give_part(&e, place, CLEFTROMI_L_TRANSLATED);
+    return e;
+}
+
+static bool is_fault(unsigned row)
+{
+    return row == VIOLATION || row == UNDEFINED_READ || row == UNDEFINED_WRITE;
+}
+
+static void note_event(event e, const uint8_t *old)
+{
+    unsigned long *noted = events[e.row];
+    noted[HAPPENED]++;
+    for (unsigned k = 0; k < old[0]; k++) {
+        uint8_t lsr = unit_at(old, k)[LSR], rw = lsr & CLEFTROMI_LSR_RW;
+        if (e.rdp[k] != CLEFTROMI_NO_DESCRIPTOR)
+            continue;
+        noted[OTHER_L] += (lsr & CLEFTROMI_LSR_L) != e.l[k];
+        noted[OTHER_RDP] += unit_at(old, k)[RDP] < CLEFTROMI_NO_DESCRIPTOR;
+        noted[OTHER_RW] += is_fault(e.row) ? rw != e.rw[k] : rw != 0;
+    }
+}
+
+static void event_left(event e, const uint8_t *old, const uint8_t *block)
+{
+    note_event(e, old);
+    for (unsigned k = 0; k < old[0]; k++) {
+        uint8_t lsr = unit_at(block, k)[LSR], rdp = unit_at(block, k)[RDP];
+        if (lsr != (e.l[k] | e.rw[k]) || rdp != e.rdp[k])
+            printf("%s: unit %u has LSR 0x%02X and RDP 0x%02X, due are 0x%02X and 0x%02X\n", event_names[e.row], k, lsr,
+                   rdp, e.l[k] | e.rw[k], e.rdp[k]);
+        must((lsr & CLEFTROMI_LSR_L) == e.l[k], "L7 to L4 of a unit are not those of this event");
+        must(rdp == e.rdp[k], "RDP of a unit is not that of this event");
+        must((lsr & CLEFTROMI_LSR_RW) == e.rw[k], "RW of a unit is not that of this event");
+    }
+}
+
+static void translation_leaves(const uint8_t *old, const uint8_t *block, uint64_t answer)
+{
+    event e = translation_event(old, (unsigned)now.number[0]);
+    must(cleftromi_byte(answer) == (e.row == TRANSLATED ? 0x00 : 0xFF),
+         "a direct translation says that it found something, and has not, or the other way");
+    event_left(e, old, block);
+}
+
+static void access_leaves(const uint8_t *old, const uint8_t *block, uint64_t answer)
+{
+    unsigned place = first_match(old, 0, (unsigned)(now.number[2] >> 8), old[16 + now.number[0]]);
+    unsigned named = 32 * cleftromi_unit(answer) + cleftromi_descriptor(answer);
+    bool write = now.number[1] != CLEFTROMI_READ;
+    if (place == places(old)) {
+        must(cleftromi_kind(answer) == CLEFTROMI_UNDEFINED, "an access that nothing matches has another answer");
+        event_left(undefined_event(old, write), old, block);
+    } else if (write && (descriptor_at(old, place)[SSR] & CLEFTROMI_SSR_WP)) {
+        must(cleftromi_kind(answer) == CLEFTROMI_VIOLATION && named == place,
+             "a write to a protected segment is no violation there");
+        event_left(violation_event(old, place), old, block);
+    } else {
+        must(cleftromi_kind(answer) == CLEFTROMI_MAPPED, "an access that is to be mapped has another answer");
+    }
+}
+
+/* ------------------------------------------------------------------ */
 /* Sentence 2                                                          */
 /* ------------------------------------------------------------------ */
 
@@ -375,11 +548,11 @@ static bool loaded(const uint8_t *unit, const uint8_t *d)
     return d[SSR] == (unit[AC7] & 0x9F);
 }
 
-static void note_load(const uint8_t *old, unsigned m, segment wanted, unsigned place, bool asks, bool clashes)
+static void note_load(const uint8_t *old, unsigned m, event e, unsigned place, bool asks)
 {
-    unsigned mine = 32 * m;
+    bool clashes = e.row == LOAD_REFUSED;
     seen[!asks ? SEEN_UNASKED : clashes ? SEEN_CLASH : SEEN_LOAD]++;
-    seen[SEEN_CLASH_ELSEWHERE] += clashes && clashing(old, wanted, place, mine, mine + 32) == mine + 32;
+    seen[SEEN_CLASH_ELSEWHERE] += clashes && e.l[m] == CLEFTROMI_L_NONE;
     seen[SEEN_RELOAD] += enabled(old, place);
     seen[SEEN_STALE] += asks && stale_elsewhere(old, m);
 }
@@ -389,7 +562,8 @@ static void load_exactly(const uint8_t *old, const uint8_t *block, uint64_t answ
     unsigned m = (unsigned)now.number[0], place = 32 * m + unit_at(old, m)[DP];
     segment wanted = segment_wanted(unit_at(old, m));
     bool asks = (unit_at(old, m)[AC7] & CLEFTROMI_SSR_E) != 0;
-    bool clashes = asks && clashing(old, wanted, place, 0, places(old)) != places(old);
+    event e = load_event(old, wanted, place, asks);
+    bool clashes = e.row == LOAD_REFUSED;
 
     must(cleftromi_kind(answer) == CLEFTROMI_BYTE, "a load is no read of a byte");
     must(cleftromi_byte(answer) == (clashes ? 0xFF : 0x00),
@@ -398,8 +572,9 @@ static void load_exactly(const uint8_t *old, const uint8_t *block, uint64_t answ
          clashes ? "a refused load leaves the descriptor enabled" : "a granted load does not enable as it asks");
     if (asks && !clashes)
         must(loaded(unit_at(old, m), descriptor_at(block, place)), "a granted load loads other bytes");
+    event_left(e, old, block);
 
-    note_load(old, m, wanted, place, asks, clashes);
+    note_load(old, m, e, place, asks);
     if (!enabled(old, place) && load_harmless(old, block, wanted, place) && asks)
         seen[clashes ? SEEN_HIT_CLASH : SEEN_HIT_LOAD]++;
 }
@@ -555,9 +730,14 @@ static bool is_start(call c)
     return c.name == CALL_START || c.name == CALL_RESET;
 }
 
+static bool is_read(call c, unsigned address)
+{
+    return c.name == CALL_REGISTER && c.number[1] == address && c.number[2] == CLEFTROMI_READ;
+}
+
 static bool is_load(call c)
 {
-    return c.name == CALL_REGISTER && c.number[1] == CLEFTROMI_LOAD && c.number[2] == CLEFTROMI_READ;
+    return is_read(c, CLEFTROMI_LOAD);
 }
 
 /* Makes a call and checks all that is said of it.  Before a start or a reset
@@ -580,6 +760,10 @@ static void make(call c)
         return;
     if (is_load(c)) /* first, for else a load that must not be granted is seen by what it leaves */
         load_exactly(old, block, answer);
+    if (is_read(c, CLEFTROMI_TRANSLATE))
+        translation_leaves(old, block, answer);
+    if (c.name == CALL_ACCESS)
+        access_leaves(old, block, answer);
     one_match(is_start(c) || made % 64 == 0 ? NULL : old, block);
     marks_alike(block);
     seen[SEEN_UNITS + block[0]]++;
