@@ -17,6 +17,9 @@
  *      every unit are those of this event (docs/PROVED.md, "What an event
  *      leaves"), which is worked out from the block before the call.
  *
+ * 2, 3, 5, 6 and 7 are said of every block, and so is 4 but for the marks: they
+ * are checked on noise too, random bytes in which descriptors clash.
+ *
  * Nothing is compared with the model.  Only mix, which plans the calls, sees
  * the block as a state of the model. */
 #include <inttypes.h>
@@ -33,6 +36,7 @@
 #define GUARD 32u
 #define UNITS 6u
 #define HISTORY 2500u /* calls: enough to fill a unit or two */
+#define NOISES 120u   /* blocks of noise after each history */
 
 /* The block stands somewhere in the room: "before" is the room as it was. */
 static uint8_t room[ROOM], before[ROOM];
@@ -43,6 +47,7 @@ static call now; /* the call that is being checked */
 static uint64_t seed;
 static unsigned long made, histories;
 static bool reached; /* from a granted start or reset; else the block is noise */
+static bool clashed; /* before the call that is being checked two enabled descriptors clashed */
 
 /* ------------------------------------------------------------------ */
 /* What has been seen                                                  */
@@ -71,6 +76,8 @@ enum {
     SEEN_FEWER,
     SEEN_ALL,
     SEEN_TWO_CLASH,
+    SEEN_TWO_VIOLATED,
+    SEEN_TWO_TRANSLATED,
     SEEN_END
 };
 
@@ -86,9 +93,22 @@ static const char *const seen_names[SEEN_END] = {
     "pairs compared", "pairs tried with every page and number",
     "calls lent more bytes than the call before", "calls lent fewer", "calls lent the whole room",
     "units with two descriptors or more that a refused load clashes with",
+    "violations where two descriptors match or more", "direct translations where two match or more",
 };
 
 static unsigned long seen[SEEN_END];
+
+/* What is seen of loads, from SEEN_LOAD to SEEN_GIVEN, is counted apart for
+ * reached blocks and for noise in which descriptors clash. */
+static unsigned long seen_clashed[SEEN_GIVEN + 1];
+
+static void note(unsigned what, bool happened)
+{
+    if (reached)
+        seen[what] += happened;
+    else if (clashed)
+        seen_clashed[what] += happened;
+}
 
 /* The rows of the table of events; undefined accesses by their direction. */
 enum { VIOLATION, UNDEFINED_READ, UNDEFINED_WRITE, LOAD_REFUSED, LOAD_GRANTED, TRANSLATED, NOT_TRANSLATED, EVENTS };
@@ -105,30 +125,37 @@ enum { HAPPENED, OTHER_L, OTHER_RDP, OTHER_RW, NOTED };
 static const char *const noted_names[NOTED] = {"", "units with another L before", "with another RDP",
                                                "with RW to be changed, or to be kept at 1"};
 
-static unsigned long events[EVENTS][NOTED];
+static unsigned long events[2][EVENTS][NOTED]; /* in noise, and in reached blocks */
 
-static const char *report_events(void)
+/* Prints a count.  One that is zero is missing, the last of them is kept. */
+static void print_count(unsigned long count, const char *name, const char *after, const char **missing)
 {
-    const char *missing = NULL;
-    for (unsigned row = 0; row < EVENTS; row++)
-        for (unsigned i = 0; i < NOTED; i++) {
-            printf("%s%lu %s", i > 0 ? ", " : "", events[row][i], i > 0 ? noted_names[i] : event_names[row]);
-            printf("%s", i + 1 < NOTED ? "" : "\n");
-            if (events[row][i] == 0)
-                missing = event_names[row];
+    printf("%lu %s%s", count, name, after);
+    if (count == 0)
+        *missing = name;
+}
+
+static void report_events(const char **missing)
+{
+    for (unsigned where = 0; where < 2; where++)
+        for (unsigned row = 0; row < EVENTS; row++) {
+            const unsigned long *noted = events[where][row];
+            print_count(noted[HAPPENED], event_names[row], where ? " in reached blocks: " : " in noise: ", missing);
+            for (unsigned i = HAPPENED + 1; i < NOTED; i++)
+                print_count(noted[i], noted_names[i], i + 1 < NOTED ? ", " : "\n", missing);
         }
-    return missing;
 }
 
 static int report(void)
 {
-    const char *missing = report_events();
-    for (unsigned i = 1; i < SEEN_END; i++) {
-        printf("%s%lu %s", i > 1 ? ", " : "", seen[i], seen_names[i]);
-        if (seen[i] == 0)
-            missing = seen_names[i];
-    }
-    printf("\n%lu calls in %lu histories", made, histories);
+    const char *missing = NULL;
+    report_events(&missing);
+    printf("in noise with clashes: ");
+    for (unsigned i = SEEN_LOAD; i <= SEEN_GIVEN; i++)
+        print_count(seen_clashed[i], seen_names[i], i < SEEN_GIVEN ? ", " : "\n", &missing);
+    for (unsigned i = 1; i < SEEN_END; i++)
+        print_count(seen[i], seen_names[i], i + 1 < SEEN_END ? ", " : "\n", &missing);
+    printf("%lu calls in %lu histories", made, histories);
     if (missing == NULL)
         printf(", every sentence held\n");
     else
@@ -205,6 +232,8 @@ static segment segment_at(const uint8_t *block, unsigned place)
     segment s = {d[0] | (unsigned)d[1] << 8, d[2] | (unsigned)d[3] << 8, d[6], d[8]};
     return s;
 }
+
+static const segment everything = {0, 0, 0, 0};
 
 /* The accumulator has the high byte of a word first. */
 static segment segment_wanted(const uint8_t *unit)
@@ -284,6 +313,16 @@ static unsigned clashing(const uint8_t *block, segment s, unsigned except, unsig
     return end;
 }
 
+/* Noise may have two that clash. */
+static bool some_clash(const uint8_t *block)
+{
+    unsigned end = places(block);
+    for (unsigned i = 0; i < end; i++)
+        if (enabled(block, i) && clashing(block, segment_at(block, i), i, i + 1, end) != end)
+            return true;
+    return false;
+}
+
 /* ------------------------------------------------------------------ */
 /* Sentence 1                                                          */
 /* ------------------------------------------------------------------ */
@@ -312,10 +351,14 @@ static unsigned number_under(segment s)
     return (s.number & s.number_mask) | (mix_below(&calls, 256) & ~s.number_mask);
 }
 
+static unsigned page_under(segment s)
+{
+    return (s.page & s.page_mask) | (mix_below(&calls, 65536) & ~s.page_mask);
+}
+
 /* Some enabled descriptor; without one everything. */
 static segment some_segment(const uint8_t *block)
 {
-    segment everything = {0, 0, 0, 0};
     unsigned all = places(block), from = mix_below(&calls, all);
     for (unsigned i = 0; i < all; i++)
         if (enabled(block, (from + i) % all))
@@ -327,8 +370,7 @@ static segment some_segment(const uint8_t *block)
  * of its numbers, if there is such a code. */
 static call aimed_access(const uint8_t *block, segment s)
 {
-    unsigned page = (s.page & s.page_mask) | (mix_below(&calls, 65536) & ~s.page_mask);
-    unsigned code = mix_below(&calls, 16);
+    unsigned page = page_under(s), code = mix_below(&calls, 16);
     for (unsigned i = 0; i < 16 && !agrees(block[16 + code], s.number, s.number_mask); i++)
         code = (code + 1) % 16;
     call c = {CALL_ACCESS, {code, mix_below(&calls, 2), (uint64_t)page << 8 | mix_below(&calls, 256)}, 0};
@@ -358,8 +400,8 @@ static bool access_kept(call c, const uint8_t *old, const uint8_t *block, unsign
 {
     uint64_t was = answer_on_copy(c, old), is = answer_on_copy(c, block);
     unsigned kind = cleftromi_kind(was);
-    seen[SEEN_KEPT_MAPPED] += kind == CLEFTROMI_MAPPED;
-    seen[SEEN_KEPT_VIOLATION] += kind == CLEFTROMI_VIOLATION;
+    note(SEEN_KEPT_MAPPED, kind == CLEFTROMI_MAPPED);
+    note(SEEN_KEPT_VIOLATION, kind == CLEFTROMI_VIOLATION);
     if (kind == CLEFTROMI_MAPPED || kind == CLEFTROMI_VIOLATION) {
         must(same_but_irq(c, was, is), "a load into a disabled descriptor changes what an access had");
         return true;
@@ -368,7 +410,7 @@ static bool access_kept(call c, const uint8_t *old, const uint8_t *block, unsign
     if (cleftromi_kind(is) != CLEFTROMI_UNDEFINED) {
         must(32 * cleftromi_unit(is) + cleftromi_descriptor(is) == place,
              "a load gives an access an answer that is not by the descriptor loaded");
-        seen[SEEN_GIVEN]++;
+        note(SEEN_GIVEN, true);
     }
     return false;
 }
@@ -376,7 +418,6 @@ static bool access_kept(call c, const uint8_t *old, const uint8_t *block, unsign
 /* Accesses to what is enabled, to what was asked for, and to anything. */
 static bool load_harmless(const uint8_t *old, const uint8_t *block, segment wanted, unsigned place)
 {
-    segment everything = {0, 0, 0, 0};
     bool hit = false;
     for (unsigned i = 0; i < 6; i++) {
         segment s = i < 4 ? some_segment(old) : i == 4 ? wanted : everything;
@@ -460,8 +501,10 @@ static event translation_event(const uint8_t *old, unsigned m)
     segment asked = segment_wanted(unit_at(old, m));
     unsigned place = first_match(old, 0, asked.page, asked.number);
     event e = nobodys_event(old, place == places(old) ? NOT_TRANSLATED : TRANSLATED);
-    if (e.row == TRANSLATED)
-        give_part(&e, place, CLEFTROMI_L_TRANSLATED);
+    if (e.row == NOT_TRANSLATED)
+        return e;
+    give_part(&e, place, CLEFTROMI_L_TRANSLATED);
+    seen[SEEN_TWO_TRANSLATED] += first_match(old, place + 1, asked.page, asked.number) != places(old);
     return e;
 }
 
@@ -472,7 +515,7 @@ static bool is_fault(unsigned row)
 
 static void note_event(event e, const uint8_t *old)
 {
-    unsigned long *noted = events[e.row];
+    unsigned long *noted = events[reached][e.row];
     noted[HAPPENED]++;
     for (unsigned k = 0; k < old[0]; k++) {
         uint8_t lsr = unit_at(old, k)[LSR], rw = lsr & CLEFTROMI_LSR_RW;
@@ -508,7 +551,8 @@ static void translation_leaves(const uint8_t *old, const uint8_t *block, uint64_
 
 static void access_leaves(const uint8_t *old, const uint8_t *block, uint64_t answer)
 {
-    unsigned place = first_match(old, 0, (unsigned)(now.number[2] >> 8), old[16 + now.number[0]]);
+    unsigned page = (unsigned)(now.number[2] >> 8), number = old[16 + now.number[0]];
+    unsigned place = first_match(old, 0, page, number);
     unsigned named = 32 * cleftromi_unit(answer) + cleftromi_descriptor(answer);
     bool write = now.number[1] != CLEFTROMI_READ;
     if (place == places(old)) {
@@ -518,6 +562,7 @@ static void access_leaves(const uint8_t *old, const uint8_t *block, uint64_t ans
         must(cleftromi_kind(answer) == CLEFTROMI_VIOLATION && named == place,
              "a write to a protected segment is no violation there");
         event_left(violation_event(old, place), old, block);
+        seen[SEEN_TWO_VIOLATED] += first_match(old, place + 1, page, number) != places(old);
     } else {
         must(cleftromi_kind(answer) == CLEFTROMI_MAPPED, "an access that is to be mapped has another answer");
     }
@@ -551,20 +596,21 @@ static bool loaded(const uint8_t *unit, const uint8_t *d)
 static void note_load(const uint8_t *old, unsigned m, event e, unsigned place, bool asks)
 {
     bool clashes = e.row == LOAD_REFUSED;
-    seen[!asks ? SEEN_UNASKED : clashes ? SEEN_CLASH : SEEN_LOAD]++;
-    seen[SEEN_CLASH_ELSEWHERE] += clashes && e.l[m] == CLEFTROMI_L_NONE;
-    seen[SEEN_RELOAD] += enabled(old, place);
-    seen[SEEN_STALE] += asks && stale_elsewhere(old, m);
+    note(!asks ? SEEN_UNASKED : clashes ? SEEN_CLASH : SEEN_LOAD, true);
+    note(SEEN_CLASH_ELSEWHERE, clashes && e.l[m] == CLEFTROMI_L_NONE);
+    note(SEEN_RELOAD, enabled(old, place));
+    note(SEEN_STALE, asks && stale_elsewhere(old, m));
 }
 
 static void load_exactly(const uint8_t *old, const uint8_t *block, uint64_t answer)
 {
-    unsigned m = (unsigned)now.number[0], place = 32 * m + unit_at(old, m)[DP];
+    unsigned m = (unsigned)now.number[0], place = 32 * m + (unit_at(old, m)[DP] & 0x1F);
     segment wanted = segment_wanted(unit_at(old, m));
     bool asks = (unit_at(old, m)[AC7] & CLEFTROMI_SSR_E) != 0;
     event e = load_event(old, wanted, place, asks);
     bool clashes = e.row == LOAD_REFUSED;
 
+    clashed = !reached && some_clash(old);
     must(cleftromi_kind(answer) == CLEFTROMI_BYTE, "a load is no read of a byte");
     must(cleftromi_byte(answer) == (clashes ? 0xFF : 0x00),
          clashes ? "a load that clashes is granted" : "a load that does not clash is refused");
@@ -576,7 +622,7 @@ static void load_exactly(const uint8_t *old, const uint8_t *block, uint64_t answ
 
     note_load(old, m, e, place, asks);
     if (!enabled(old, place) && load_harmless(old, block, wanted, place) && asks)
-        seen[clashes ? SEEN_HIT_CLASH : SEEN_HIT_LOAD]++;
+        note(clashes ? SEEN_HIT_CLASH : SEEN_HIT_LOAD, true);
 }
 
 /* ------------------------------------------------------------------ */
@@ -755,15 +801,16 @@ static void make(call c)
     if (due != 0)
         return;
     no_stray_bit(block);
-    reached = reached || is_start(c);
-    if (!reached)
-        return;
+    if (is_start(c))
+        reached = true;
     if (is_load(c)) /* first, for else a load that must not be granted is seen by what it leaves */
         load_exactly(old, block, answer);
     if (is_read(c, CLEFTROMI_TRANSLATE))
         translation_leaves(old, block, answer);
     if (c.name == CALL_ACCESS)
         access_leaves(old, block, answer);
+    if (!reached)
+        return;
     one_match(is_start(c) || made % 64 == 0 ? NULL : old, block);
     marks_alike(block);
     seen[SEEN_UNITS + block[0]]++;
@@ -834,17 +881,77 @@ static call on_noise(void)
     return c;
 }
 
-/* Whatever stands in the block: what is said of refusals, and of the bits that
- * a granted call leaves, holds there too. */
-static void noise(void)
+static void noise_block(void)
 {
     reached = false;
     at = GUARD + mix_below(&calls, 64);
     random_bytes(room, ROOM);
+}
+
+/* 1 to 6: else no call but a start is granted. */
+static void good_count(uint8_t *block)
+{
+    block[0] = (uint8_t)(1 + mix_below(&calls, UNITS));
+}
+
+/* Whatever stands in the block, also a count that is none. */
+static void noise(void)
+{
+    noise_block();
     if (mix_below(&calls, 2))
-        room[at] = (uint8_t)(1 + mix_below(&calls, UNITS));
+        good_count(room + at);
     for (unsigned n = mix_below(&calls, 4); n > 0; n--)
         make(on_noise());
+}
+
+/* Fewer ones in the masks, so that many match the same. */
+static void widen(uint8_t *block)
+{
+    static const uint8_t masks[] = {2, 3, 8};
+    for (unsigned i = 0; i < places(block); i++)
+        for (unsigned n = 0; n < sizeof masks; n++)
+            block[128 + 9 * i + masks[n]] &= (uint8_t)mix_random(&calls);
+}
+
+/* Most of them disabled, so that a load has a chance. */
+static void thin_out(uint8_t *block)
+{
+    for (unsigned i = 0; i < places(block); i++)
+        if (mix_below(&calls, 8) != 0)
+            block[128 + 9 * i + SSR] &= (uint8_t)~CLEFTROMI_SSR_E;
+}
+
+/* A load or a direct translation of some unit.  In noise its accumulator may be
+ * written here: it asks for what stands, or for anything, and mostly for E. */
+static call operation_on_noise(uint8_t *block)
+{
+    unsigned m = mix_below(&calls, block[0]), address = mix_below(&calls, 2) ? CLEFTROMI_LOAD : CLEFTROMI_TRANSLATE;
+    uint8_t *ac = block + 32 + 16 * m;
+    segment s = mix_below(&calls, 3) ? some_segment(block) : everything;
+    unsigned page = page_under(s);
+    ac[0] = (uint8_t)(page >> 8);
+    ac[1] = (uint8_t)page;
+    ac[6] = (uint8_t)number_under(s);
+    if (mix_below(&calls, 8) != 0)
+        ac[AC7] |= CLEFTROMI_SSR_E;
+    call c = {CALL_REGISTER, {m, address, CLEFTROMI_READ}, 0};
+    return c;
+}
+
+/* Events in blocks that no history reaches. */
+static void events_in_noise(void)
+{
+    noise_block();
+    uint8_t *block = room + at;
+    good_count(block);
+    if (mix_below(&calls, 2))
+        widen(block);
+    if (mix_below(&calls, 2))
+        thin_out(block);
+    for (unsigned n = 1 + mix_below(&calls, 4); n > 0; n--) {
+        segment s = mix_below(&calls, 4) ? some_segment(block) : everything;
+        make(mix_below(&calls, 3) ? operation_on_noise(block) : aimed_access(block, s));
+    }
 }
 
 static void history(void)
@@ -875,6 +982,8 @@ int main(int argc, char **argv)
         history();
         for (until = made + HISTORY; made < until;)
             next();
+        for (unsigned n = 0; n < NOISES; n++)
+            events_in_noise();
     }
     return report();
 }
