@@ -486,7 +486,8 @@ static event load_event(const uint8_t *old, segment wanted, unsigned place, bool
     return e;
 }
 
-/* The enabled descriptor from "from" up that matches first, or the end. */
+/* The first enabled descriptor from "from" up that matches, by unit and then by
+ * descriptor; the end if there is none. */
 static unsigned first_match(const uint8_t *block, unsigned from, unsigned page, unsigned number)
 {
     unsigned end = places(block);
@@ -560,11 +561,12 @@ static void access_leaves(const uint8_t *old, const uint8_t *block, uint64_t ans
         event_left(undefined_event(old, write), old, block);
     } else if (write && (descriptor_at(old, place)[SSR] & CLEFTROMI_SSR_WP)) {
         must(cleftromi_kind(answer) == CLEFTROMI_VIOLATION && named == place,
-             "a write to a protected segment is no violation there");
+             "a write to a protected segment is no violation where it is first matched");
         event_left(violation_event(old, place), old, block);
         seen[SEEN_TWO_VIOLATED] += first_match(old, place + 1, page, number) != places(old);
     } else {
-        must(cleftromi_kind(answer) == CLEFTROMI_MAPPED, "an access that is to be mapped has another answer");
+        must(cleftromi_kind(answer) == CLEFTROMI_MAPPED && named == place,
+             "an access is not mapped where it is first matched");
     }
 }
 
@@ -938,7 +940,7 @@ static call operation_on_noise(uint8_t *block)
     return c;
 }
 
-/* Events in blocks that no history reaches. */
+/* Events in blocks that no history reaches: random bytes, with a count of 1 to 6. */
 static void events_in_noise(void)
 {
     noise_block();
