@@ -41,6 +41,17 @@ function mention(user, line,   list, n, i, name) { # a law, a definition, or a f
     }
 }
 
+# what the body of a function, or the value of a constant, names
+function calls_of(user, line,   list, n, i) {
+    gsub(/[^A-Za-z0-9_]+/, " ", line)
+    n = split(line, list, " ")
+    for (i = 1; i <= n; i++) if (!((user, list[i]) in calls)) {
+        calls[user, list[i]] = 1
+        if (user ~ /^const /) constants[list[i]] = constants[list[i]] substr(user, 6)
+        else callers[list[i]] = callers[list[i]] " " user
+    }
+}
+
 function open_item(name) {
     item = rel "#" name
     if (!(item in name_of)) { name_of[item] = name; file_of[item] = rel; items[++item_count] = item }
@@ -49,7 +60,7 @@ function open_item(name) {
 FNR == 1 {
     rel = relative(FILENAME)
     kind = rel ~ /^must-fail\// ? "edit" : rel ~ /\.rt$/ ? "code" : rel ~ /\/Proof\.antt$/ ? "proof" : "antt"
-    type = ""; fn = ""; part = ""; item = ""; base = 0; sections = 0; data = 0
+    type = ""; fn = ""; part = ""; constant = ""; item = ""; base = 0; sections = 0; data = 0
     label = rel; sub(/^must-fail\//, "", label); sub(/\.edit$/, "", label)
     mistake = 0; file = ""; old = ""
 }
@@ -84,11 +95,16 @@ kind == "code" {
         match(line, /^ */); indent = RLENGTH
         part = "contract"
     } else if (!fn && match(line, /^ *(pub(\([a-z]+\))? )?const [A-Z0-9_]+/)) {
-        owner[rel, FNR] = "const"; thing[rel, FNR] = substr(line, RSTART, RLENGTH); sub(/.* /, "", thing[rel, FNR])
+        constant = substr(line, RSTART, RLENGTH); sub(/.* /, "", constant)
     } else if (!fn && $0 ~ /^(ghost )?use /) {
         owner[rel, FNR] = "use"; thing[rel, FNR] = rel
     } else if (!fn && $0 ~ /^ *\/\//) {
         owner[rel, FNR] = "comment"; thing[rel, FNR] = rel
+    }
+    if (constant) {
+        owner[rel, FNR] = "const"; thing[rel, FNR] = constant
+        calls_of("const " constant, line)
+        if (line ~ /;$/) constant = ""
     }
     if (fn) {
         owner[rel, FNR] = part; thing[rel, FNR] = fn
@@ -97,11 +113,7 @@ kind == "code" {
             n = words(line, list)
             for (i = 1; i <= n; i++) cited[fn, list[i]] = 1
         }
-        if (part == "body") {
-            gsub(/[^A-Za-z0-9_]+/, " ", line)
-            n = split(line, list, " ")
-            for (i = 1; i <= n; i++) if (!((fn, list[i]) in calls)) { calls[fn, list[i]] = 1; callers[list[i]] = callers[list[i]] " " fn }
-        }
+        if (part == "body") calls_of(fn, line)
         line = $0; sub(/\/\/.*/, "", line); sub(/ +$/, "", line)
         match(line, /^ */)
         if (part == "contract" && line ~ /\{}$/ && line !~ /^ *(requires|ensures) /) fn = ""
@@ -191,6 +203,15 @@ function move_contract(f) {
     move(f); move_all(callers[bare_of[f]])
 }
 
+# a constant: the functions whose bodies name it, and the constants made of it
+function move_constant(name,   one, n, i) {
+    if (name in constant_moved) return
+    constant_moved[name] = 1
+    move_all(callers[name])
+    n = split(constants[name], one, " ")
+    for (i = 1; i <= n; i++) move_constant(one[i])
+}
+
 # the line that a change changes
 function line_of(c,   r, l) {
     r = change_file[c]
@@ -205,7 +226,7 @@ function begin_with(m, c,   r, l, o, t, f) {
     if (o == "body") { move(t); return }
     is_body[m] = 0
     if (o == "contract") move_contract(t)
-    else if (o == "const") move_all(callers[t])
+    else if (o == "const") move_constant(t)
     else if (o == "item") move(t)
     else if (o == "use" || o == "comment") { # what a file's contracts mean; what stands beside its functions
         for (f = 1; f <= function_count; f++) if (file_of[functions[f]] == t) { if (o == "use") move_contract(functions[f]); else move(functions[f]) }
@@ -213,7 +234,7 @@ function begin_with(m, c,   r, l, o, t, f) {
 }
 
 function close_over(m,   c, done, t, n, i, list, f) {
-    split("", moved); split("", queue); split("", contract_moved); queued = 0; whole[m] = 0; is_body[m] = 1
+    split("", moved); split("", queue); split("", contract_moved); split("", constant_moved); queued = 0; whole[m] = 0; is_body[m] = 1
     for (c = 1; c <= change_count; c++) if (change_of[c] == m) begin_with(m, c)
     if (is_body[m]) return
     for (done = 1; done <= queued; done++) {
@@ -225,6 +246,22 @@ function close_over(m,   c, done, t, n, i, list, f) {
             if (t ~ /^specs\//) for (f = 1; f <= function_count; f++) if ((functions[f], list[i]) in cited) move_contract(functions[f])
         }
     }
+}
+
+# All that function f calls, at one remove or several. Where some of it is not proved, the last declaration of f's proof, by which
+# the proof is closed, is refused for that alone: a mistake that is seen there is hidden.
+function callees(f, list,   n, done, g) {
+    split("", called); n = 0; list[++n] = f; called[f] = 1
+    for (done = 1; done <= n; done++)
+        for (g = 1; g <= function_count; g++)
+            if (!(functions[g] in called) && ((list[done], bare_of[functions[g]]) in calls)) { called[functions[g]] = 1; list[++n] = functions[g] }
+    return n
+}
+
+function hides(f,   n, i, below) {
+    n = callees(f, below)
+    for (i = 2; i <= n; i++) if (below[i] in moved) return 1
+    return 0
 }
 
 # the places that a mistake names: functions, or a law
@@ -249,7 +286,10 @@ END {
             if (name[k] == name[m]) fault(label_of[m], name[m] ": two mistakes have this name")
             for (f = 1; f <= function_count; f++) if (((m, functions[f]) in stands) && ((k, functions[f]) in stands)) fault(label_of[m], name[m] " and " name[k] " stand in one function, " functions[f])
             count = places_of(k, there)
-            for (i = 1; i <= count; i++) if (whole[m] || (there[i] in moved)) fault(label_of[m], name[m] " moves the place of " name[k] ", " there[i])
+            for (i = 1; i <= count; i++) {
+                if (whole[m] || (there[i] in moved)) fault(label_of[m], name[m] " moves the place of " name[k] ", " there[i])
+                else if (decl[k] ~ /-spec$/ && hides(there[i])) fault(label_of[m], name[m] " hides the place of " name[k] ", " there[i])
+            }
         }
         print "mistake\t" label_of[m] "\t" name[m] "\t" place[m] "\t" decl[m]
         for (t in moved) print "moves\t" label_of[m] "\t" t

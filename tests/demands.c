@@ -373,7 +373,9 @@ static call aimed_access(const uint8_t *block, segment s)
     unsigned page = page_under(s), code = mix_below(&calls, 16);
     for (unsigned i = 0; i < 16 && !agrees(block[16 + code], s.number, s.number_mask); i++)
         code = (code + 1) % 16;
-    call c = {CALL_ACCESS, {code, mix_below(&calls, 2), (uint64_t)page << 8 | mix_below(&calls, 256)}, 0};
+    unsigned direction = mix_below(&calls, 2);
+    unsigned offset = mix_below(&calls, 256);
+    call c = {CALL_ACCESS, {code, direction, (uint64_t)page << 8 | offset}, 0};
     return c;
 }
 
