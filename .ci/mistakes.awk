@@ -221,7 +221,7 @@ function line_of(c,   r, l) {
 
 function begin_with(m, c,   r, l, o, t, f) {
     r = change_file[c]; l = line_of(c); o = owner[r, l]; t = thing[r, l]
-    if (!l) fault(label_of[m], name[m] ": an old text of it is not in " r)
+    if (!l) { fault(label_of[m], name[m] ": an old text of it is not in " r); return }
     if (o == "body" || o == "contract") stands[m, t] = 1
     if (o == "body") { move(t); return }
     is_body[m] = 0
