@@ -7,21 +7,20 @@ use Prim.Native.Nat.{ℕ, _+_, _*_, _-_, _/_, _%_, _<_}
 use mathlib.Core.Path.{_≡_, refl, sym, ap, _∙_}
 use mathlib.Core.Logic.{_≢_}
 use mathlib.Core.Bool.{Bool, true, false, not, _&&_, cond, false≢true, and-eq-true-iff}
-use mathlib.Core.List.{List, [], _∷_}
 use native.Mathlib.Omega.{arith}
 use lib.Dec.{eqb}
 use lib.ListN.{length}
 use borrow.Author.Tests.{eqb-true, eqb-false}
-use Rattle.descriptors.specs.Descriptor.{enabled, protected, collides, disable, physical-page}
+use Rattle.descriptors.specs.Descriptor.{enabled, protected, collides, physical-page}
 use Rattle.descriptors.specs.declared.descriptor.Descriptor.{Descriptor}
-use Rattle.registers.specs.Unit.{NO, USA, WV, none, report, write-ac, latch, translated, with-rw, word, ac, segment, for-load, for-translation}
+use Rattle.registers.specs.Unit.{NO, USA, WV, none, report, latch, translated, with-rw, word, ac, segment, for-load, for-translation}
 use Rattle.registers.specs.Shared.{entry}
 use Rattle.registers.specs.declared.unit.Unit.{Unit}
 use Rattle.chip.specs.System.{present, unit, descriptor, pointed, with-units, with-shared, with-descriptor, with-unit, in-all}
 use Rattle.chip.specs.Search.{found, in-system, in-unit, matching}
 use Rattle.chip.specs.Answer.{violating, undefined as undefined-kind, values, refused, granted}
 use Rattle.chip.specs.Access.{writes, fault, violation, undefined, match-at, translate-at, translate}
-use Rattle.chip.specs.Prepare.{inconsistent, send, send-all, prepare}
+use Rattle.chip.specs.Prepare.{prepare}
 use Rattle.chip.specs.Load.{blame, Collides-with, collision, load-at, load}
 use Rattle.chip.specs.Translation.{result-at, direct-translation}
 use Rattle.chip.specs.Call.{performed}
@@ -40,7 +39,7 @@ use Rattle.chip.proofs.First.{first-found, first-missed}
 use Rattle.chip.proofs.Parts.{each-unit, unit-there, unit-elsewhere}
 use Rattle.chip.proofs.Once.{matching-found}
 use Rattle.chip.proofs.Changes.{prepare-places}
-use Rattle.chip.proofs.Loading.{prepared, load-is, collides-law}
+use Rattle.chip.proofs.Loading.{prepared, load-is, off, collides-law}
 
 abbrev Six : System → Type 0
 Six s = length (s .units) ≡ 6
@@ -119,27 +118,6 @@ access-leaves code cycle address s us =
         (λ w. record { violating = λ v. absurd (omega arith); undefined = λ v. absurd (omega arith) })
     go Nowhere e = record { violating = λ v. absurd (omega arith); undefined = λ v. undefined-leaves cycle page number s us }
 
--- ---- 4.6.3: to make the accumulators consistent leaves RW
-
-sent-rw : (is : List ℕ) (m : ℕ) (s : System) → Six s → (k : ℕ) → k < present s → unit (send-all is m s) k .rw ≡ unit s k .rw
-unfolding send with-units
-sent-rw [] m s us k h = refl
-sent-rw (i ∷ is) m s us k h =
-    sent-rw is m (send i m s) (six _ s us) k h ∙ ap (λ (u : Unit). u .rw) (done (write-ac i (ac (unit s m) i)) s us k h)
-
-sent-six : (is : List ℕ) (m : ℕ) (s : System) → Six s → Six (send-all is m s)
-unfolding send
-sent-six [] m s us = us
-sent-six (i ∷ is) m s us = sent-six is m (send i m s) (six _ s us)
-
-prepared-six : (is : List ℕ) (m : ℕ) (s : System) → Six s → Six (prepare is m s)
-unfolding prepare
-prepared-six is m s us = either Six (inconsistent is s) (λ e. sent-six is m s us) (λ e. us)
-
-prepared-rw : (is : List ℕ) (m : ℕ) (s : System) → Six s → (k : ℕ) → k < present s → unit (prepare is m s) k .rw ≡ unit s k .rw
-unfolding prepare
-prepared-rw is m s us k h = either (λ (t : System). unit t k .rw ≡ unit s k .rw) (inconsistent is s) (λ e. sent-rw is m s us k h) (λ e. refl)
-
 -- ---- 4.6.3.2: a load
 
 blamed : (k : ℕ) (f : Found) (u : Unit) → status (blame f u) ≡ leaves (event.load-refused (λ j. f)) k (u .rw)
@@ -147,12 +125,9 @@ blamed k (At i) u = refl
 blamed k Nowhere u = refl
 
 module _ (d : Descriptor) (i : ℕ) (s : System) where
-  abbrev off : System
-  off = with-descriptor s i (disable (descriptor s i))
-
   -- where each unit's lowest collision is
   abbrev lowest : ℕ → Found
-  lowest k = in-unit (collides d) k off
+  lowest k = in-unit (collides d) k (off i s)
 
   load-at-leaves : Six s → (k : ℕ) → k < present s → let r = load-at d i s in
       (r .byte ≢ 0xFF → status (unit (r .system) k) ≡ leaves event.load-granted k (unit s k .rw))
@@ -162,24 +137,24 @@ module _ (d : Descriptor) (i : ℕ) (s : System) where
       either
       (λ (r : Reading). (r .byte ≢ 0xFF → status (unit (r .system) k) ≡ leaves event.load-granted k (unit s k .rw))
       × (r .byte ≡ 0xFF → (enabled d ≡ true) × (status (unit (r .system) k) ≡ leaves (event.load-refused lowest) k (unit s k .rw))))
-      (collision d off)
-      (λ c. (λ n. absurd (n refl), λ e. (and-eq-true-iff (enabled d) (found (in-system (collides d) off)) .0 c .0, ap status (each-unit off _ k h (omega arith)) ∙ blamed k (lowest k) (unit s k))))
-      (λ c. (λ n. ap status (done _ (with-descriptor off i d) us k h), λ e. absurd (omega arith)))
+      (collision d (off i s))
+      (λ c. (λ n. absurd (n refl), λ e. (and-eq-true-iff (enabled d) (found (in-system (collides d) (off i s))) .0 c .0, ap status (each-unit (off i s) _ k h (omega arith)) ∙ blamed k (lowest k) (unit s k))))
+      (λ c. (λ n. ap status (done _ (with-descriptor (off i s) i d) us k h), λ e. absurd (omega arith)))
 
   lowest-law : i < length (s .descriptors) → enabled d ≡ true → (k : ℕ) → Lowest d i k s (lowest k)
   lowest-law there asks k = go (lowest k) refl
     where
-      none-there : (j : ℕ) → collides d (descriptor off j) ≡ false → Collides-with d i j s → ⊥
+      none-there : (j : ℕ) → collides d (descriptor (off i s) j) ≡ false → Collides-with d i j s → ⊥
       none-there j e c = false≢true (sym e ∙ collides-law d i s there asks j .1 c)
 
       go : (f : Found) → lowest k ≡ f → Lowest d i k s f
       go (At j) e =
-          let f = first-found (λ j. collides d (descriptor off j)) (32 * k) 32 j e in
+          let f = first-found (λ j. collides d (descriptor (off i s) j)) (32 * k) 32 j e in
           let low = f .low in
           let high = f .high in
           (j - 32 * k, omega arith, omega arith, collides-law d i s there asks j .0 (f .here), λ l h. none-there (32 * k + l) (f .before (32 * k + l) (omega arith) (omega arith)))
       go Nowhere e = λ n h.
-          none-there (32 * k + n) (first-missed (λ j. collides d (descriptor off j)) (32 * k) 32 e (32 * k + n) (omega arith) (omega arith))
+          none-there (32 * k + n) (first-missed (λ j. collides d (descriptor (off i s) j)) (32 * k) 32 e (32 * k + n) (omega arith) (omega arith))
 
 -- where the collisions are depends on the descriptors alone
 lowest-same : (d : Descriptor) (i k : ℕ) (s t : System) → t .descriptors ≡ s .descriptors → (f : Found) → Lowest d i k t f → Lowest d i k s f
@@ -206,8 +181,9 @@ module _ (m : ℕ) (s : System) (h : m < present s) (us : length (s .units) ≡ 
         × (r .byte ≡ 0xFF → (enabled (segment (unit s m)) ≡ true)
         × (status (unit (r .system) k) ≡ leaves (event.load-refused (lowest (segment (unit s m)) (pointed m s) (prepare for-load m s))) k (unit s k .rw)))
     loads =
-        rw (load-is m s h us, ← prepared-rw for-load m s us k l)
-        (load-at-leaves (segment (unit s m)) (pointed m s) (prepare for-load m s) (prepared-six for-load m s us) k (rw (prepare-places for-load m s .1) l))
+        let p = prepared for-load m s h us in
+        rw (load-is m s h us, ← p .rw k l)
+        (load-at-leaves (segment (unit s m)) (pointed m s) (prepare for-load m s) (p .six) k (rw (prepare-places for-load m s .1) l))
 
   pub granted-leaves : load m s .byte ≢ 0xFF
       → (k : ℕ) → k < present s → status (unit (load m s .system) k) ≡ leaves event.load-granted k (unit s k .rw)
@@ -230,11 +206,12 @@ module _ (m : ℕ) (s : System) (h : m < present s) (us : length (s .units) ≡ 
   translation-leaves k l =
       let t = prepare for-translation m s in
       let same = prepare-places for-translation m s in
-      let values = prepared for-translation m s h us .1 in
+      let p = prepared for-translation m s h us in
+      let values = p .same .1 in
       let f = matching (word (unit s m) 0) (ac (unit s m) 6) s in
       let e : matching (word (unit t m) 0) (ac (unit t m) 6) t ≡ f = rw (values 0, values 1, values 6, same .0, same .1) refl in
       let there : (i : ℕ) → f ≡ At i → i / 32 < present t =
       λ i q. rw (same .1) (omega (arith, matching-found s (word (unit s m) 0) (ac (unit s m) 6) i q .high)) in
       ap (λ (f : Found). status (unit (result-at f (word (unit t m) 0) t .system) k)) e
-      ∙ result-leaves f (word (unit t m) 0) t (prepared-six for-translation m s us) there k (rw (same .1) l)
-      ∙ ap (leaves (event.translation f) k) (prepared-rw for-translation m s us k l)
+      ∙ result-leaves f (word (unit t m) 0) t (p .six) there k (rw (same .1) l)
+      ∙ ap (leaves (event.translation f) k) (p .rw k l)

@@ -1,5 +1,5 @@
 -- What a load answers, and what it leaves alone (demand 3, second and third sentence).
---     prepared            to make the accumulators consistent changes no value in the unit that they come from
+--     prepared            to make the accumulators consistent changes no value in the unit that they come from, and RW in none
 --     load-refused        refused exactly when there is a collision
 --     load-granted        granted, the segment in the accumulator stands in the descriptor
 --     load-shared         it changes no shared register
@@ -30,6 +30,7 @@ use Rattle.chip.specs.Answer.{reading}
 use Rattle.chip.specs.Load.{blame, Collides-with, Collision, collision, load-at, load}
 use Rattle.chip.specs.declared.system.System.{System}
 use Rattle.chip.specs.declared.search.Found.the-variants.{At}
+use Rattle.chip.proofs.Checked.{either}
 use Rattle.chip.proofs.Each.{length-each}
 use Rattle.chip.proofs.First.{First, first-at, first-found, found-of, at-some}
 use Rattle.chip.proofs.Parts.{each-unit, descriptor-there, descriptor-elsewhere}
@@ -49,23 +50,31 @@ marked (b ∷ l) zero (suc j) = refl
 marked (b ∷ l) (suc i) zero = refl
 marked (b ∷ l) (suc i) (suc j) = marked l i j
 
-sent : (is : List ℕ) (m : ℕ) (s : System) → m < present s → length (s .units) ≡ 6 → Same (unit s m) (unit (send-all is m s) m)
+-- what it leaves: in every unit RW, and in unit m that
+pub record Sent (m : ℕ) (s t : System) : Type 0 where
+  pub six : length (t .units) ≡ 6
+  pub same : Same (unit s m) (unit t m)
+  pub rw : (k : ℕ) → k < present s → unit t k .rw ≡ unit s k .rw
+
+sent : (is : List ℕ) (m : ℕ) (s : System) → m < present s → length (s .units) ≡ 6 → Sent m s (send-all is m s)
 unfolding send with-units
-sent [] m s h l = (refl, λ j. refl)
+sent [] m s h l = record { six = l; same = (refl, λ j. refl); rw = λ k q. refl }
 sent (i ∷ is) m s h l =
     let later = sent is m (send i m s) h (length-each (present s) _ (s .units) ∙ l) in
-    let here : unit (send i m s) m ≡ write-ac i (ac (unit s m) i) (unit s m) = each-unit s _ m h (omega arith) in (
-      later .0 ∙ ap (λ (u : Unit). u .dp) here,
-      λ j. later .1 j ∙ ap (λ (u : Unit). ac u j) here ∙ marked (unit s m .accumulator) i j,
-    )
+    let here : (k : ℕ) → k < present s → unit (send i m s) k ≡ write-ac i (ac (unit s m) i) (unit s k) = λ k q. each-unit s _ k q (omega arith) in
+    record {
+      six = later .six;
+      same = (
+        later .same .0 ∙ ap (λ (u : Unit). u .dp) (here m h),
+        λ j. later .same .1 j ∙ ap (λ (u : Unit). ac u j) (here m h) ∙ marked (unit s m .accumulator) i j,
+      );
+      rw = λ k q. later .rw k q ∙ ap (λ (u : Unit). u .rw) (here k q);
+    }
 
-pub prepared : (is : List ℕ) (m : ℕ) (s : System) → m < present s → length (s .units) ≡ 6 → Same (unit s m) (unit (prepare is m s) m)
+pub prepared : (is : List ℕ) (m : ℕ) (s : System) → m < present s → length (s .units) ≡ 6 → Sent m s (prepare is m s)
 unfolding prepare
-prepared is m s h l = go (inconsistent is s)
-  where
-    go : (b : Bool) → Same (unit s m) (unit (cond b (send-all is m s) s) m)
-    go true = sent is m s h l
-    go false = (refl, λ j. refl)
+prepared is m s h l =
+    either (Sent m s) (inconsistent is s) (λ e. sent is m s h l) (λ e. record { six = l; same = (refl, λ j. refl); rw = λ k q. refl })
 
 same-segment : (u v : Unit) → Same u v → segment v ≡ segment u
 same-segment u v h = rw (h .1 0, h .1 1, h .1 2, h .1 3, h .1 4, h .1 5, h .1 6, h .1 7, h .1 8)
@@ -74,14 +83,18 @@ pub load-is : (m : ℕ) (s : System) → m < present s → length (s .units) ≡
     → load m s ≡ load-at (segment (unit s m)) (pointed m s) (prepare for-load m s)
 unfolding load
 load-is m s h l =
-    let k = prepared for-load m s h l in
+    let k = prepared for-load m s h l .same in
     rw (same-segment (unit s m) (unit (prepare for-load m s) m) k, k .0)
 
 -- ---- 4.6.3.2: the collision
 
+-- the system in which the load is compared: its own place cannot cause a collision
+abbrev pub off : (i : ℕ) → System → System
+off i s = with-descriptor s i (disable (descriptor s i))
+
 module _ (d : Descriptor) (i : ℕ) (s : System) (there : i < length (s .descriptors)) (asks : enabled d ≡ true) where
   abbrev t : System
-  t = with-descriptor s i (disable (descriptor s i))
+  t = off i s
 
   -- the descriptor that is loaded is compared with none of its own
   out : (k : ℕ) → enabled (descriptor t k) ≡ true → k ≢ i
@@ -139,7 +152,7 @@ unfolding load-at with-units with-descriptor
 leaves-law d i s there = go (collision d t)
   where
     t : System
-    t = with-descriptor s i (disable (descriptor s i))
+    t = off i s
 
     go : (b : Bool)
         → let r = cond b (reading 0xFF (in-each (λ k. blame (in-unit (collides d) k t)) t)) (reading 0x00 (in-all (report NO none) (with-descriptor t i d))) in
