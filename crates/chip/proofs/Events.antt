@@ -13,7 +13,7 @@ use lib.ListN.{length}
 use borrow.Author.Tests.{eqb-true, eqb-false}
 use Rattle.descriptors.specs.Descriptor.{enabled, protected, collides, physical-page}
 use Rattle.descriptors.specs.declared.descriptor.Descriptor.{Descriptor}
-use Rattle.registers.specs.Unit.{NO, USA, WV, none, report, latch, translated, with-rw, word, ac, segment, for-load, for-translation}
+use Rattle.registers.specs.Unit.{WV, report, latch, translated, with-rw, word, ac, segment, for-load, for-translation}
 use Rattle.registers.specs.Shared.{entry}
 use Rattle.registers.specs.declared.unit.Unit.{Unit}
 use Rattle.chip.specs.System.{present, unit, descriptor, pointed, with-units, with-shared, with-descriptor, with-unit, in-all}
@@ -52,14 +52,18 @@ six : (f : Unit → Unit) (s : System) → Six s → Six (in-all f s)
 unfolding with-units
 six f s us = length-each (present s) (λ m. f) (s .units) ∙ us
 
--- and then unit m alone was changed
-one-changed : (f : Unit → Unit) (s : System) → Six s → (m k : ℕ) → m < present s
-    → status (unit (with-unit s m (f (unit s m))) k) ≡ cond (eqb k m) (status (f (unit s k))) (status (unit s k))
-one-changed f s us m k h = go (eqb k m) refl
+-- and then f to unit m alone
+one-more : (g f : Unit → Unit) (s : System) → Six s → (m k : ℕ) → m < present s → k < present s → let t = in-all g s in
+    status (unit (with-unit t m (f (unit t m))) k) ≡ cond (eqb k m) (status (f (g (unit s k)))) (status (g (unit s k)))
+unfolding with-units
+one-more g f s us m k h l = go (eqb k m) refl
   where
-    go : (b : Bool) → eqb k m ≡ b → status (unit (with-unit s m (f (unit s m))) k) ≡ cond b (status (f (unit s k))) (status (unit s k))
-    go true q = rw (eqb-true k m q, unit-there s m (f (unit s m)) (omega arith)) refl
-    go false q = rw (unit-elsewhere s m k (f (unit s m)) (eqb-false k m q)) refl
+    t : System
+    t = in-all g s
+
+    go : (b : Bool) → eqb k m ≡ b → status (unit (with-unit t m (f (unit t m))) k) ≡ cond b (status (f (g (unit s k)))) (status (g (unit s k)))
+    go true q = rw (eqb-true k m q, unit-there t m (f (unit t m)) (omega (arith, six g s us)), done g s us m h) refl
+    go false q = rw (unit-elsewhere t m k (f (unit t m)) (eqb-false k m q), done g s us k l) refl
 
 -- ---- 4.5.3: the faults
 
@@ -75,15 +79,15 @@ violation-leaves : (cycle : Cycle) (page number m n : ℕ) (s : System) → Six 
     → (k : ℕ) → k < present s → status (unit (violation cycle page number m n s) k) ≡ leaves (event.write-violation m n) k (unit s k .rw)
 unfolding violation fault with-shared with-units
 violation-leaves cycle page number m n s us h w k l =
-    one-changed (λ u. report WV n (latch page number u)) (in-all (report NO none) (fault cycle s)) (six _ (fault cycle s) (fault-six cycle s us)) m k h
-    ∙ rw (done _ (fault cycle s) (fault-six cycle s us) k l, fault-unit cycle s us k l, w) refl
+    let e : unit (fault cycle s) k ≡ with-rw (unit s k) false = fault-unit cycle s us k l ∙ rw w refl in
+    one-more _ (λ u. report WV n (latch page number u)) (fault cycle s) (fault-six cycle s us) m k h l ∙ rw e refl
 
 undefined-leaves : (cycle : Cycle) (page number : ℕ) (s : System) → Six s
     → (k : ℕ) → k < present s → status (unit (undefined cycle page number s) k) ≡ leaves (event.undefined-access (not (writes cycle))) k (unit s k .rw)
 unfolding undefined fault with-shared with-units
 undefined-leaves cycle page number s us k h =
     let latched = done (latch page number) (fault cycle s) (fault-six cycle s us) k h in
-    ap status (done (report USA none) (in-all (latch page number) (fault cycle s)) (six _ (fault cycle s) (fault-six cycle s us)) k h)
+    ap status (done _ (in-all (latch page number) (fault cycle s)) (six _ (fault cycle s) (fault-six cycle s us)) k h)
     ∙ rw (latched, fault-unit cycle s us k h) refl
 
 -- a bus access, by what it answers
@@ -168,8 +172,7 @@ result-leaves : (f : Found) (page : ℕ) (s : System) → Six s → ((i : ℕ) �
     → (k : ℕ) → k < present s → status (unit (result-at f page s .system) k) ≡ leaves (event.translation f) k (unit s k .rw)
 unfolding result-at with-units
 result-leaves (At i) page s us there k h =
-    one-changed (translated (physical-page (descriptor s i) page) (i % 32)) (in-all (report NO none) s) (six _ s us) (i / 32) k (there i refl)
-    ∙ rw (done _ s us k h) refl
+    one-more _ (translated (physical-page (descriptor s i) page) (i % 32)) s us (i / 32) k (there i refl) h
 result-leaves Nowhere page s us there k h = ap status (done _ s us k h)
 
 -- ---- both, by unit m's accumulator

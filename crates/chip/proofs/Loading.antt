@@ -20,16 +20,17 @@ use Rattle.descriptors.specs.Descriptor.{enabled, matches, clashes, collides, d
 use Rattle.descriptors.proofs.Enable.{clean-e, disabled-e}
 use Rattle.descriptors.proofs.Clash.{matches-enabled, matches-clash, clash-matches}
 use Rattle.descriptors.specs.declared.descriptor.Descriptor.{Descriptor}
-use Rattle.registers.specs.Unit.{NO, none, report, local, global, ac, write-ac, segment, for-load}
+use Rattle.registers.specs.Unit.{local, global, ac, write-ac, segment, for-load}
 use Rattle.registers.specs.declared.unit.Byte.{Byte}
 use Rattle.registers.specs.declared.unit.Unit.{Unit}
-use Rattle.chip.specs.System.{present, unit, descriptor, pointed, with-units, with-descriptor, in-each, in-all}
+use Rattle.chip.specs.System.{present, unit, descriptor, pointed, with-units, with-descriptor}
 use Rattle.chip.specs.Prepare.{inconsistent, send, send-all, prepare}
-use Rattle.chip.specs.Search.{found, in-system, in-unit, matching}
+use Rattle.chip.specs.Search.{found, in-system, matching}
 use Rattle.chip.specs.Answer.{reading}
-use Rattle.chip.specs.Load.{blame, Collides-with, Collision, collision, load-at, load}
+use Rattle.chip.specs.Load.{Collides-with, Collision, collision, load-at, load}
 use Rattle.chip.specs.declared.system.System.{System}
 use Rattle.chip.specs.declared.search.Found.the-variants.{At}
+use Rattle.chip.specs.declared.answer.Reading.{Reading}
 use Rattle.chip.proofs.Checked.{either}
 use Rattle.chip.proofs.Each.{length-each}
 use Rattle.chip.proofs.First.{First, first-at, first-found, found-of, at-some}
@@ -144,33 +145,28 @@ module _ (d : Descriptor) (i : ℕ) (s : System) (there : i < length (s .descrip
       forth false x y e = absurd (false≢true e)
 
 -- what it leaves: nothing shared is changed and no other descriptor; granted, d stands at place i, and refused it is disabled
-leaves-law : (d : Descriptor) (i : ℕ) (s : System) → i < length (s .descriptors) → let r = load-at d i s in
+abbrev Loaded : Descriptor → (i : ℕ) → System → Reading → Type 0
+Loaded d i s r =
     (r .system .shared ≡ s .shared) × ((k : ℕ) → k ≢ i → descriptor (r .system) k ≡ descriptor s k)
     × (r .byte ≢ 0xFF → (r .byte ≡ 0x00) × (descriptor (r .system) i ≡ d))
     × (r .byte ≡ 0xFF → enabled (descriptor (r .system) i) ≡ false)
-unfolding load-at with-units with-descriptor
-leaves-law d i s there = go (collision d t)
-  where
-    t : System
-    t = off i s
 
-    go : (b : Bool)
-        → let r = cond b (reading 0xFF (in-each (λ k. blame (in-unit (collides d) k t)) t)) (reading 0x00 (in-all (report NO none) (with-descriptor t i d))) in
-        (r .system .shared ≡ s .shared) × ((k : ℕ) → k ≢ i → descriptor (r .system) k ≡ descriptor s k)
-        × (r .byte ≢ 0xFF → (r .byte ≡ 0x00) × (descriptor (r .system) i ≡ d))
-        × (r .byte ≡ 0xFF → enabled (descriptor (r .system) i) ≡ false)
-    go true = (
+leaves-law : (d : Descriptor) (i : ℕ) (s : System) → i < length (s .descriptors) → Loaded d i s (load-at d i s)
+unfolding load-at with-units with-descriptor
+leaves-law d i s there =
+    either (Loaded d i s) (collision d (off i s))
+    (λ c. (
       refl,
       λ k n. descriptor-elsewhere s i k _ n,
       λ n. absurd (n refl),
       λ e. rw (descriptor-there s i (disable (descriptor s i)) there) (disabled-e (descriptor s i .ssr)),
-    )
-    go false = (
+    ))
+    (λ c. (
       refl,
-      λ k n. descriptor-elsewhere t i k d n ∙ descriptor-elsewhere s i k _ n,
-      λ n. (refl, descriptor-there t i d (rw length-set there)),
+      λ k n. descriptor-elsewhere (off i s) i k d n ∙ descriptor-elsewhere s i k _ n,
+      λ n. (refl, descriptor-there (off i s) i d (rw length-set there)),
       λ e. absurd (omega arith),
-    )
+    ))
 
 -- and at unit m
 asked : (m : ℕ) (s : System) → bit (ac (unit s m) 7) E ≡ true → enabled (segment (unit s m)) ≡ true
