@@ -12,13 +12,11 @@ use Rattle.descriptors.proofs.Enable.{clean-e}
 use Rattle.registers.specs.Unit.{ac}
 use Rattle.registers.specs.Shared.{entry}
 use Rattle.registers.specs.declared.shared.Shared.{Shared}
-use Rattle.chip.specs.System.{present, unit, descriptor, pointed}
+use Rattle.chip.specs.System.{unit, descriptor, pointed}
 use Rattle.chip.specs.Search.{matching}
 use Rattle.chip.specs.Answer.{values, refused, granted, checked, miscounted, undefined}
 use Rattle.chip.specs.Access.{writes, match-at, translate-at, translate}
 use Rattle.chip.specs.Load.{load}
-use Rattle.chip.specs.Translation.{direct-translation}
-use Rattle.chip.specs.Register.{register-at, read as read-register, operate}
 use Rattle.chip.specs.Call.{performed}
 use Rattle.chip.specs.declared.system.System.{System}
 use Rattle.chip.specs.declared.access.Cycle.{Cycle}
@@ -28,76 +26,24 @@ use Rattle.chip.specs.declared.register.Operation.the-variants as operation
 use Rattle.chip.specs.declared.answer.Refusal.{Refusal}
 use Rattle.chip.specs.declared.answer.Refusal.the-variants as refusals
 use Rattle.chip.specs.declared.answer.Answer.{Answer}
-use Rattle.chip.specs.declared.answer.Answer.the-variants.{Byte}
 use Rattle.chip.specs.declared.answer.Outcome.{Outcome}
-use Rattle.chip.specs.declared.answer.Reading.{Reading}
 use Rattle.chip.specs.declared.call.Call.{Call}
 use Rattle.chip.specs.declared.call.Call.the-variants as call
-use Rattle.chip.proofs.Counts.{counted-present}
-use Rattle.chip.proofs.Checked.{refusal-told, none-of, checks, unrefused, as-checked, outcome-law}
+use Rattle.chip.proofs.Checked.{none-of, checks, unrefused, as-checked}
 use Rattle.chip.proofs.Once.{at-most-one}
 use Rattle.chip.proofs.Loading.{load-refused, load-granted, load-shared, load-harmless}
 use Rattle.block.specs.Layout.{Bytes, short, read}
-use Rattle.block.specs.Clean.{Clean}
-use Rattle.block.proofs.Tidy.{read-clean}
 use Rattle.block.proofs.Fit.{small}
 use Rattle.block.proofs.Kept.{performed-clean}
 use Rattle.cleftromi.specs.Interface.{cycle-by, number-of, answer}
 use Rattle.cleftromi.specs.Fields.{refusal, kind}
-use Rattle.cleftromi.specs.Fields as field
 use Rattle.cleftromi.proofs.Blocks.{granted-holds}
 use Rattle.demands.specs.Histories.{Register}
-use Rattle.demands.specs.Demands.{above-irq, Load, Translation, Demand-3}
+use Rattle.demands.specs.Demands.{above-irq, Load, Demand-3}
 use Rattle.demands.proofs.Calls.{Made, access-made, register-made}
 use Rattle.demands.proofs.Histories.{number-fits, granted-told, reached-good}
 use Rattle.demands.proofs.Refusals.{long-answer, demand-1}
-use Rattle.demands.proofs.Stated.{told, stated}
-
--- ---- a register read through C
-
--- where it has no numbered refusal, it is the read of that register in unit m
-is-read : (m address : ℕ) (s : System) → let c = call.Register m address operation.Read in
-    let r = read-register (register-at address) m s in
-    values (performed c s .answer) .number ≡ 0 → (m < present s) × (performed c s ≡ granted (Byte (r .byte)) (r .system))
-unfolding refused operate
-is-read m address s =
-    outcome-law
-    (λ (o : Outcome). values (o .answer) .number ≡ 0
-    → (m < present s) × (o ≡ granted (Byte (read-register (register-at address) m s .byte)) (read-register (register-at address) m s .system)))
-    (call.Register m address operation.Read) s (λ r e. absurd (refusal-told r .0 e))
-    (λ n e. (counted-present m (s .shared .count) (n .0) (n .1 .0), refl))
-
-pub record Was-read (reading : Reading) (m : ℕ) (b : List ℕ) (r : ℕ) (e : List ℕ) : Type 0 where
-  pub there : m < present (read b)
-  pub clean : Clean (read b)
-  pub byte : field.byte r ≡ reading .byte
-  pub reads : read e ≡ reading .system
-
-was-read : (m address : ℕ) {value r : ℕ} {b e : List ℕ} → Bytes b → Register m address 0 value b r e → refusal r ≡ 0
-    → Was-read (read-register (register-at address) m (read b)) m b r e
-unfolding granted
-was-read m address {b = b} h k e =
-    let c = call.Register m address operation.Read in
-    let made = register-made k in
-    let t = granted-told c b _ (made .answered) e in
-    let l = is-read m address (read b) (t .granted) in
-    let o = stated c h (t .long) made in
-    record {
-      there = l .0;
-      clean = read-clean b h;
-      byte = o .fields .byte ∙ ap (λ (o : Outcome). values (o .answer) .byte) (l .1);
-      reads = o .registers ∙ ap (λ (o : Outcome). o .system) (l .1);
-    }
-
--- a load, and a direct translation
-pub loaded : {m value r : ℕ} {b e : List ℕ} → Bytes b → Load m value b r e → refusal r ≡ 0 → Was-read (load m (read b)) m b r e
-unfolding register-at read-register
-loaded {m} h k e = was-read m 0x3F h k e
-
-pub translated : {m value r : ℕ} {b e : List ℕ} → Bytes b → Translation m value b r e → refusal r ≡ 0
-    → Was-read (direct-translation m (read b)) m b r e
-unfolding register-at read-register
-translated {m} h k e = was-read m 0x3D h k e
+use Rattle.demands.proofs.Stated.{told, loaded}
 
 -- ---- an access before a load and after it
 

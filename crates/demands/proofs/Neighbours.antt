@@ -28,8 +28,7 @@ use Rattle.demands.specs.Demands.{As-stated, No-stale-neighbour}
 use Rattle.demands.proofs.Calls.{access-made}
 use Rattle.demands.proofs.Histories.{reached-good}
 use Rattle.demands.proofs.Refusals.{short-made}
-use Rattle.demands.proofs.Stated.{stated}
-use Rattle.demands.proofs.Loads.{loaded, translated}
+use Rattle.demands.proofs.Stated.{stated, loaded, translated}
 
 -- 3.1.6: a clean status has IP only with E
 pending-enabled : (ssr : ℕ) → clean ssr ≡ ssr → bit ssr IP ≡ true → bit ssr E ≡ true
