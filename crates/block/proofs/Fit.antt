@@ -8,7 +8,7 @@ use Rattle.masks.specs.Fields.{bit}
 use Rattle.masks.proofs.Laws.{gate-fits}
 use Rattle.descriptors.specs.Descriptor.{pending, protected, disable}
 use Rattle.descriptors.specs.declared.descriptor.Descriptor.{Descriptor}
-use Rattle.registers.specs.Unit.{flag, consistent, for-translation, for-load, lsr}
+use Rattle.registers.specs.Unit.{rdp-of, flag, consistent, for-translation, for-load, lsr}
 use Rattle.registers.specs.Shared.{gsr-byte}
 use Rattle.registers.specs.declared.unit.Unit.{Unit}
 use Rattle.registers.specs.declared.shared.Gsr.{Gsr}
@@ -37,7 +37,6 @@ use Rattle.chip.specs.declared.answer.Values.{Values}
 use Rattle.chip.proofs.Checked.{refusal-told, either, none-of, checks, unrefused, outcome-law}
 use Rattle.chip.proofs.Counts.{counted-present}
 use Rattle.chip.proofs.Once.{matching-found}
-use Rattle.block.specs.Layout.{rdp-of}
 use Rattle.block.specs.Clean.{Clean}
 use Rattle.block.proofs.Kept.{status-fits}
 
@@ -145,6 +144,6 @@ performed-fit c s k = outcome-law Fits c s refusals (go c)
     go (call.Access code cycle address) n =
         translate-fits _ cycle _ _ _ s (omega arith) (λ i e. omega (arith, matching-found s _ _ i e .high))
     go (call.Register m address operation.Read) n =
-        byte-fits _ (read-fits (register-at address) m s k (counted-present m (s .shared .count) (n .0) (n .1 .0)))
+        byte-fits _ (read-fits (register-at address) m s k (counted-present m (s .shared .board .count) (n .0) (n .1 .0)))
     go (call.Register m address (operation.Write value)) n = done-fits
     go (call.Acknowledge m) n = byte-fits _ (k .shared .ivr)

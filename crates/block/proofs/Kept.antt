@@ -16,7 +16,7 @@ use Rattle.masks.specs.Fields.{bit, every, field}
 use Rattle.masks.proofs.Bits.{field-fits, every-at}
 use Rattle.descriptors.specs.Status.{E, raise, lower, clean, used, modified, disabled, rewritten}
 use Rattle.descriptors.specs.Descriptor.{bytes, zeros, enabled, protected, matches, collides, with-ssr, disable}
-use Rattle.registers.specs.Unit.{RW, NO, LD, USA, WV, none, local, no-unit, ac, with-byte, with-dp, with-rw, report, latch, take, translated}
+use Rattle.registers.specs.Unit.{rdp-of, RW, NO, LD, USA, WV, none, local, no-unit, ac, with-byte, with-dp, with-rw, report, latch, take, translated}
 use Rattle.registers.specs.Unit.{for-translation, for-load, word, segment}
 use Rattle.descriptors.specs.declared.descriptor.Descriptor.{Descriptor}
 use Rattle.registers.specs.declared.unit.Byte.{Byte}
@@ -26,6 +26,7 @@ use Rattle.chip.specs.declared.system.System.{System}
 use Rattle.chip.specs.System.{present, unit, descriptor, with-units, with-shared, with-descriptor, with-unit, in-each, in-all, pointed}
 use Rattle.registers.specs.Shared.{gsr-of, entry, with-entry, with-gsr}
 use Rattle.registers.specs.declared.shared.Gsr.{Gsr}
+use Rattle.registers.specs.declared.shared.Board.{Board}
 use Rattle.chip.specs.Reset.{blank, uninitialized, nothing, identity, unselected, fresh, unselectable}
 use Rattle.chip.specs.Access.{writes, touched, fault, violation, undefined, match-at, translate-at, translate}
 use Rattle.chip.specs.Transfer.{transfer, write-status}
@@ -56,7 +57,6 @@ use Rattle.chip.proofs.First.{first-found}
 use Rattle.descriptors.proofs.Clash.{matches-enabled}
 use Rattle.chip.proofs.Each.{length-each, stored}
 use Rattle.chip.proofs.Parts.{each-unit, past-units}
-use Rattle.block.specs.Layout.{rdp-of}
 use Rattle.masks.proofs.Laws.{gate-fits}
 use Rattle.block.proofs.Tidy.{clean-twice}
 use Rattle.block.specs.Clean.{Clean-descriptor, Clean-unit, Clean-shared, Clean}
@@ -142,7 +142,7 @@ units-kept s f c k = record {
   no-descriptor = c .no-descriptor;
 }
 
-shared-kept : (s : System) (h : Shared) → Clean s → Clean-shared h → h .count ≡ s .shared .count → Clean (with-shared s h)
+shared-kept : (s : System) (h : Shared) → Clean s → Clean-shared h → h .board .count ≡ s .shared .board .count → Clean (with-shared s h)
 unfolding with-shared
 shared-kept s h c k e = record {
   shared = k;
@@ -229,9 +229,9 @@ blank-clean = record {
     small-zeros zero = none-left
     small-zeros (suc n) = also (lit< tt) (small-zeros n)
 
-empty-clean : (count : ℕ) → count ≤ 6 → Clean (with-shared nothing (uninitialized count))
+empty-clean : (board : Board) → board .count ≤ 6 → Clean (with-shared nothing (uninitialized board))
 unfolding with-shared
-empty-clean count h = record {
+empty-clean board h = record {
   shared = record { entries = refl; entry = zeros-fit 16; ivr = lit< tt; count = omega arith };
   places = (refl, refl);
   units = λ m k. rw (getD-replicate 6 m blank no-unit (omega arith)) blank-clean;
@@ -240,16 +240,16 @@ empty-clean count h = record {
   no-descriptor = λ i k q. getD-replicate 192 i zeros zeros q;
 }
 
-unselected-clean : (count : ℕ) → count ≤ 6 → Clean (unselected count)
+unselected-clean : (board : Board) → board .count ≤ 6 → Clean (unselected board)
 unfolding unselected
-unselected-clean count h =
-    units-kept _ _ (empty-clean count h) (λ m u c. report-kept u NO none c (lit< tt) none-clean)
+unselected-clean board h =
+    units-kept _ _ (empty-clean board h) (λ m u c. report-kept u NO none c (lit< tt) none-clean)
 
-pub fresh-clean : (count : ℕ) (unit : Selected) → count ≤ 6 → unselectable unit count ≡ false → Clean (fresh count unit)
+pub fresh-clean : (board : Board) (unit : Selected) → board .count ≤ 6 → unselectable unit (board .count) ≡ false → Clean (fresh board unit)
 unfolding fresh unselected with-units with-shared
-fresh-clean count selected.Nobody h q = unselected-clean count h
-fresh-clean count (selected.Unit m) h q =
-    descriptor-kept (unselected count) (32 * m) identity (unselected-clean count h) (omega (arith, below m count q)) identity-clean
+fresh-clean board selected.Nobody h q = unselected-clean board h
+fresh-clean board (selected.Unit m) h q =
+    descriptor-kept (unselected board) (32 * m) identity (unselected-clean board h) (omega (arith, below m (board .count) q)) identity-clean
   where
     below : (m count : ℕ) → not (ltb m count) ≡ false → m < count
     below m count q = ltb-true m count (not-false (ltb m count) q)
@@ -503,11 +503,11 @@ unfolding translate granted
 performed-clean c s k v = performed-law Clean c s k (go c v)
   where
     go : (c : Call) → bus c < 2 ^ 8 → none-of (checks c s) → Clean (unrefused c s .system)
-    go (call.Start count selected) v n = fresh-clean count selected (well-counted count (n .0)) (n .1 .0)
+    go (call.Start count selected) v n = fresh-clean _ selected (well-counted count (n .0)) (n .1 .0)
     go (call.Reset selected) v n =
-        fresh-clean (s .shared .count) selected (well-counted (s .shared .count) (n .0)) (n .1 .0)
+        fresh-clean _ selected (well-counted (s .shared .board .count) (n .0)) (n .1 .0)
     go (call.Access code cycle address) v n =
         translate-kept code cycle address s k (omega (arith, ltb-false 0xFFFFFF address (n .1 .1 .0)))
     go (call.Register m address operation) v n =
-        operate-kept operation (register-at address) m s k (counted-present m (s .shared .count) (n .0) (n .1 .0)) v
+        operate-kept operation (register-at address) m s k (counted-present m (s .shared .board .count) (n .0) (n .1 .0)) v
     go (call.Acknowledge m) v n = k

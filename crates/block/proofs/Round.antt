@@ -89,7 +89,7 @@ gsr-back false false false = refl
 pub shared-back : (h : Shared) (r : List ℕ) → Clean-shared h → shared-of (shared-bytes h ++ r) ≡ h
 unfolding shared-of shared-bytes
 shared-back h r c =
-    let small : h .count % 256 ≡ h .count = omega (arith, c .count) in
+    let small : h .board .count % 256 ≡ h .board .count = omega (arith, c .count) in
     rw (take-at (h .table) r 16 (c .entries), gsr-back (h .gsr .f) (h .gsr .df) (h .gsr .ie), small)
 
 -- The parts of a block that a system was written to
@@ -150,9 +150,9 @@ module _ (s : System) (table : length (s .shared .table) ≡ 16) (r : List ℕ) 
   unfolding form units descriptors past-units past-descriptors
   shared-at c = simp append-assoc (shared-back (s .shared) (units ++ past-units) c)
 
-  count-at : Clean-shared (s .shared) → getD (form s ++ r) 0 0 ≡ s .shared .count
+  count-at : Clean-shared (s .shared) → getD (form s ++ r) 0 0 ≡ s .shared .board .count
   unfolding shared-of
-  count-at c = ap (λ (h : Shared). h .count) (shared-at c)
+  count-at c = ap (λ (h : Shared). h .board .count) (shared-at c)
 
 pub system-back : (s : System) (r : List ℕ) → Clean s → read (form s ++ r) ≡ s
 unfolding read system-of

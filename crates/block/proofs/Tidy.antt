@@ -17,7 +17,7 @@ use Rattle.masks.specs.Fields.{bit}
 use Rattle.masks.proofs.Bits.{bit-field, field-cong}
 use Rattle.descriptors.specs.Status.{E, IP, reserved, clean}
 use Rattle.descriptors.specs.Descriptor.{zeros}
-use Rattle.registers.specs.Unit.{none, local, no-unit, ac}
+use Rattle.registers.specs.Unit.{none, rdp-of, local, no-unit, ac}
 use Rattle.registers.specs.Shared.{entry}
 use Rattle.chip.specs.System.{each}
 use Rattle.chip.specs.Reset.{blank, nothing}
@@ -25,7 +25,7 @@ use Rattle.chip.proofs.Each.{each-at, each-past, length-each}
 use Rattle.descriptors.specs.declared.descriptor.Descriptor.{Descriptor}
 use Rattle.registers.specs.declared.unit.Unit.{Unit}
 use Rattle.chip.specs.declared.system.System.{System}
-use Rattle.block.specs.Layout.{Bytes, size, unit-place, descriptor-place, nine, rdp-of, byte-of, form, written}
+use Rattle.block.specs.Layout.{Bytes, size, unit-place, descriptor-place, nine, byte-of, form, written}
 use Rattle.block.specs.Layout.{unit-of, descriptor-of, shared-of, system-of, read}
 use Rattle.block.specs.Clean.{Clean-descriptor, Clean-unit, Clean-shared, Clean}
 use Rattle.block.proofs.Round.{length-form, system-back}

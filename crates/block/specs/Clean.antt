@@ -4,11 +4,10 @@ use mathlib.Core.Path.{_≡_}
 use lib.ListN.{length}
 use Rattle.descriptors.specs.Status.{clean}
 use Rattle.descriptors.specs.Descriptor.{zeros}
-use Rattle.registers.specs.Unit.{ac}
+use Rattle.registers.specs.Unit.{rdp-of, ac}
 use Rattle.registers.specs.Shared.{entry}
 use Rattle.chip.specs.System.{present, unit, descriptor}
 use Rattle.chip.specs.Reset.{blank}
-use Rattle.block.specs.Layout.{rdp-of}
 use Rattle.descriptors.specs.declared.descriptor.Descriptor.{Descriptor}
 use Rattle.registers.specs.declared.unit.Unit.{Unit}
 use Rattle.registers.specs.declared.shared.Shared.{Shared}
@@ -36,7 +35,7 @@ pub record Clean-shared (h : Shared) : Type 0 where
   pub entries : length (h .table) ≡ 16
   pub entry : (i : ℕ) → entry h i < 2 ^ 8
   pub ivr : h .ivr < 2 ^ 8
-  pub count : h .count < 2 ^ 8
+  pub count : h .board .count < 2 ^ 8
 
 pub record Clean (s : System) : Type 0 where
   pub shared : Clean-shared (s .shared)

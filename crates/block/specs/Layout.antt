@@ -6,8 +6,8 @@ use lib.Dec.{ltb}
 use lib.ListN.{length, take, drop, getD, replicate}
 use Rattle.masks.specs.Fields.{bit, field}
 use Rattle.descriptors.specs.Status.{clean}
-use Rattle.registers.specs.Unit.{RW, none, flag, local, ac}
-use Rattle.registers.specs.Shared.{gsr-of, gsr-byte}
+use Rattle.registers.specs.Unit.{RW, rdp-of, flag, local, ac}
+use Rattle.registers.specs.Shared.{board, gsr-of, gsr-byte}
 use Rattle.chip.specs.System.{present, unit, descriptor, each}
 use Rattle.chip.specs.Reset.{nothing}
 use Rattle.descriptors.specs.declared.descriptor.Descriptor.{Descriptor}
@@ -62,7 +62,7 @@ descriptor-bytes d =
     ∷ d .asn ∷ d .ssr ∷ d .asm ∷ []
 
 unfoldable pub shared-bytes : Shared → List ℕ
-shared-bytes h = h .count % 256 ∷ gsr-byte (h .gsr) ∷ h .ivr ∷ replicate 13 0 ++ h .table
+shared-bytes h = h .board .count % 256 ∷ gsr-byte (h .gsr) ∷ h .ivr ∷ replicate 13 0 ++ h .table
 
 -- the one written form of a system
 unfoldable pub form : System → List ℕ
@@ -80,10 +80,6 @@ written b s = cond (short b) b (form s ++ drop size b)
 -- Reading. A word of two bytes
 abbrev pub word-at : List ℕ → (i : ℕ) → ℕ
 word-at b i = getD b i 0 + 256 * getD b (i + 1) 0
-
--- NVR, with the number 0, or five bits of number
-abbrev pub rdp-of : (value : ℕ) → ℕ
-rdp-of value = cond (bit value 7) none (value % 32)
 
 -- byte i of the accumulator, with its mark
 abbrev pub byte-of : List ℕ → (i : ℕ) → Byte
@@ -110,7 +106,7 @@ descriptor-of b = record {
 }
 
 unfoldable pub shared-of : List ℕ → Shared
-shared-of b = record { table = take 16 (drop 16 b); gsr = gsr-of (getD b 1 0); ivr = getD b 2 0; count = getD b 0 0 }
+shared-of b = record { table = take 16 (drop 16 b); gsr = gsr-of (getD b 1 0); ivr = getD b 2 0; board = board (getD b 0 0) }
 
 -- the system that a block holds; the units at or above the count are zero
 unfoldable pub system-of : List ℕ → System

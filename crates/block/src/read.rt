@@ -3,10 +3,11 @@ ghost use mathlib.Core.Path.{_≡_};
 ghost use Prim.Native.Nat.{_+_, _*_, _≤_, _<_, min};
 ghost use lib.ListN.{length, drop};
 ghost use Rattle.chip.specs.System.{each};
-ghost use Rattle.block.specs.Layout.{nine, byte-of, unit-place, rdp-of, unit-of, descriptor-of, shared-of, read};
+ghost use Rattle.block.specs.Layout.{nine, byte-of, unit-place, unit-of, descriptor-of, shared-of, read};
 use chip::system::System;
 use descriptors::descriptor::Descriptor;
 use descriptors::status;
+use registers::shared::Board;
 use registers::shared::Gsr;
 use registers::shared::Shared;
 use registers::unit;
@@ -27,16 +28,6 @@ fn word(low: u8, high: u8) -> u16
     ensures { λ r. ⌜ r ≡ low + 256 * high ⌝ }
 {
     low as u16 + 256 * (high as u16)
-}
-
-fn rdp_of(value: u8) -> u8
-    ensures { λ r. ⌜ r ≡ rdp-of value ⌝ }
-{
-    if value & unit::NONE != 0 {
-        unit::NONE
-    } else {
-        value % 32
-    }
 }
 
 fn accumulator_of(b: &[u8]) -> [Byte; 9]
@@ -65,7 +56,7 @@ fn unit_of(b: &[u8]) -> Unit
     Unit {
         accumulator: accumulator_of(b),
         dp: b[11] % 32,
-        rdp: rdp_of(b[13]),
+        rdp: unit::rdp_of(b[13]),
         l: b[12] / 16,
         rw: b[12] & unit::RW != 0,
     }
@@ -109,7 +100,9 @@ fn shared_of(b: &[u8]) -> Shared
         table,
         gsr: Gsr::of(b[1]),
         ivr: b[2],
-        count: b[0] as usize,
+        board: Board {
+            count: b[0] as usize,
+        },
     }
 }
 
@@ -122,7 +115,7 @@ pub fn read(b: &[u8]) -> System
     }
     let shared = shared_of(b);
     system.shared = shared;
-    let n = present(shared.count);
+    let n = present(shared.board.count);
     let units = system.units;
     system.units = units_of(b, units, n);
     for i in 0..32 * n {

@@ -110,7 +110,7 @@ fn put_shared(b: &mut [u8], shared: Shared)
     ensures { λ r. ⌜ now (b .exit) ≡ shared-bytes shared ++ drop 32 (now (b .entry)) ⌝ }
 {
     put_zeros(b, 16);
-    b[0] = (shared.count % 256) as u8;
+    b[0] = (shared.board.count % 256) as u8;
     b[1] = shared.gsr.byte();
     b[2] = shared.ivr;
     let table = shared.table;
@@ -124,7 +124,7 @@ pub fn write(b: &mut [u8], system: System)
         return;
     }
     let shared = system.shared;
-    let n = read::present(shared.count);
+    let n = read::present(shared.board.count);
     put_shared(b, shared);
     let units = system.units;
     put_units(&mut b[32..], units, n);

@@ -15,6 +15,7 @@ use Rattle.descriptors.specs.Status.{E}
 use Rattle.descriptors.specs.Descriptor.{enabled, Clash, clashes, with-ssr, zeros}
 use Rattle.descriptors.proofs.Clash.{clash-law}
 use Rattle.descriptors.specs.declared.descriptor.Descriptor.{Descriptor}
+use Rattle.registers.specs.declared.shared.Board.{Board}
 use Rattle.chip.specs.System.{present, descriptor, with-units, with-shared, with-descriptor}
 use Rattle.chip.specs.Reset.{identity, unselected, fresh, unselectable}
 use Rattle.chip.specs.Call.{performed}
@@ -81,24 +82,24 @@ zero-everywhere zero i = refl
 zero-everywhere (suc n) zero = refl
 zero-everywhere (suc n) (suc i) = zero-everywhere n i
 
-off : (count i : ℕ) → enabled (descriptor (unselected count) i) ≡ false
+off : (board : Board) (i : ℕ) → enabled (descriptor (unselected board) i) ≡ false
 unfolding unselected with-units with-shared bit
-off count i = rw (zero-everywhere 192 i)
+off board i = rw (zero-everywhere 192 i)
 
-unselected-apart : (count : ℕ) → (length (unselected count .descriptors) ≡ 192) × Apart (unselected count)
+unselected-apart : (board : Board) → (length (unselected board .descriptors) ≡ 192) × Apart (unselected board)
 unfolding Apart unselected with-units with-shared
-unselected-apart count = (refl, λ i j hi hj ei ej c. absurd (false≢true (sym (off count i) ∙ ei)))
+unselected-apart board = (refl, λ i j hi hj ei ej c. absurd (false≢true (sym (off board i) ∙ ei)))
 
-pub fresh-apart : (count : ℕ) (unit : Selected) → count ≤ 6 → unselectable unit count ≡ false
-    → (length (fresh count unit .descriptors) ≡ 192) × Apart (fresh count unit)
+pub fresh-apart : (board : Board) (unit : Selected) → board .count ≤ 6 → unselectable unit (board .count) ≡ false
+    → (length (fresh board unit .descriptors) ≡ 192) × Apart (fresh board unit)
 unfolding fresh Clear with-descriptor
-fresh-apart count selected.Nobody few h = unselected-apart count
-fresh-apart count (selected.Unit m) few h =
-    let u = unselected-apart count in
-    let below = ltb-true m count (not-false (ltb m count) h) in (
-      length-set (unselected count .descriptors) (32 * m) identity ∙ u .0,
-      replaced-apart (unselected count) (32 * m) identity (omega (arith, u .0)) (u .1)
-          (λ k l n e f. absurd (false≢true (sym (off count k) ∙ f))),
+fresh-apart board selected.Nobody few h = unselected-apart board
+fresh-apart board (selected.Unit m) few h =
+    let u = unselected-apart board in
+    let below = ltb-true m (board .count) (not-false (ltb m (board .count)) h) in (
+      length-set (unselected board .descriptors) (32 * m) identity ∙ u .0,
+      replaced-apart (unselected board) (32 * m) identity (omega (arith, u .0)) (u .1)
+          (λ k l n e f. absurd (false≢true (sym (off board k) ∙ f))),
     )
 
 -- ---- any changes
@@ -107,7 +108,7 @@ pub changes-apart : (s t : System) → Changes s t → length (s .descriptors) �
     → (length (t .descriptors) ≡ 192) × Apart t
 unfolding Apart with-units with-shared with-descriptor
 changes-apart s t stays l apart = (l, apart)
-changes-apart s t (renewed count selected few h) l apart = fresh-apart count selected few h
+changes-apart s t (renewed board selected few h) l apart = fresh-apart board selected few h
 changes-apart s t (units {t = t′} f h c) l apart = changes-apart s t′ c l apart
 changes-apart s t (one-unit {t = t′} m u h c) l apart = changes-apart s t′ c l apart
 changes-apart s t (global {t = t′} i value c) l apart = changes-apart s t′ c l apart

@@ -17,6 +17,7 @@ use Rattle.descriptors.specs.declared.descriptor.Descriptor.{Descriptor}
 use Rattle.registers.specs.Unit.{NO, none, local, byte, ac, with-byte, write-ac, report, latch, take, for-translation, for-load}
 use Rattle.registers.specs.Shared.{gsr-of}
 use Rattle.registers.specs.declared.unit.Unit.{Unit}
+use Rattle.registers.specs.declared.shared.Board.{Board}
 use Rattle.registers.specs.declared.shared.Shared.{Shared}
 use Rattle.chip.specs.System.{present, unit, descriptor, pointed, with-units, with-shared, with-descriptor, with-unit, in-each, in-all}
 use Rattle.chip.specs.Search.{in-system, in-unit}
@@ -61,11 +62,11 @@ Clear d i s =
 
 pub data Changes (s : System) : System → Type 0 where
   stays : Changes s s
-  renewed : (count : ℕ) (selected : Selected) → count ≤ 6 → unselectable selected count ≡ false → Changes s (fresh count selected)
+  renewed : (board : Board) (selected : Selected) → board .count ≤ 6 → unselectable selected (board .count) ≡ false → Changes s (fresh board selected)
   units : {t : System} (f : ℕ → Unit → Unit) → ((m : ℕ) (u : Unit) → Fewer u (f m u)) → Changes s t → Changes s (in-each f t)
   one-unit : {t : System} (m : ℕ) (u : Unit) → Fewer (unit t m) u → Changes s t → Changes s (with-unit t m u)
   global : {t : System} (i value : ℕ) → Changes s t → Changes s (in-all (write-ac i value) t)
-  shared : {t : System} (h : Shared) → h .count ≡ t .shared .count → Changes s t → Changes s (with-shared t h)
+  shared : {t : System} (h : Shared) → h .board .count ≡ t .shared .board .count → Changes s t → Changes s (with-shared t h)
   status : {t : System} (i ssr : ℕ) → i < 32 * present t → (bit ssr E ≡ true → enabled (descriptor t i) ≡ true) → Changes s t
       → Changes s (with-descriptor t i (with-ssr (descriptor t i) ssr))
   loaded : {t : System} (i : ℕ) (d : Descriptor) → i < 32 * present t → Clear d i t → Changes s t → Changes s (with-descriptor t i d)
@@ -212,10 +213,10 @@ unfolding translate granted
 performed-changes c s = performed-law (Changes s) c s stays (go c)
   where
     go : (c : Call) → none-of (checks c s) → Changes s (unrefused c s .system)
-    go (call.Start count selected) n = renewed count selected (well-counted count (n .0)) (n .1 .0)
-    go (call.Reset selected) n = renewed (s .shared .count) selected (well-counted (s .shared .count) (n .0)) (n .1 .0)
+    go (call.Start count selected) n = renewed _ selected (well-counted count (n .0)) (n .1 .0)
+    go (call.Reset selected) n = renewed _ selected (well-counted (s .shared .board .count) (n .0)) (n .1 .0)
     go (call.Access code cycle address) n =
         translate-changes s _ cycle _ _ _ (λ i e. omega (arith, matching-found s _ _ i e .high))
     go (call.Register m address operation) n =
-        operate-changes operation (register-at address) m s (counted-present m (s .shared .count) (n .0) (n .1 .0))
+        operate-changes operation (register-at address) m s (counted-present m (s .shared .board .count) (n .0) (n .1 .0))
     go (call.Acknowledge m) n = stays

@@ -12,6 +12,7 @@ use mathlib.Core.Bool.{Bool, true, false, not, cond}
 use mathlib.Core.List.{List, [], _∷_}
 use native.Mathlib.Omega.{arith}
 use lib.Dec.{ltb}
+use Rattle.registers.specs.Shared.{board}
 use Rattle.chip.specs.Search.{irq}
 use Rattle.chip.specs.Answer.{number, refused, granted, checked, miscounted, absent}
 use Rattle.chip.specs.Reset.{unselectable, fresh, start, reset}
@@ -53,17 +54,17 @@ checked-law P (c ∷ cs) s o h k = either P (c .1) (λ e. h (c .0)) (λ e. check
 abbrev pub checks : Call → System → List (Refusal × Bool)
 checks (Start count selected) s = (refusal.Count, miscounted count) ∷ (refusal.Unit, unselectable selected count) ∷ []
 checks (Reset selected) s =
-    (refusal.Count, miscounted (s .shared .count)) ∷ (refusal.Unit, unselectable selected (s .shared .count)) ∷ []
+    (refusal.Count, miscounted (s .shared .board .count)) ∷ (refusal.Unit, unselectable selected (s .shared .board .count)) ∷ []
 checks (Access code cycle address) s =
-    (refusal.Count, miscounted (s .shared .count)) ∷ (refusal.FunctionCode, ltb 15 code) ∷ (refusal.Address, ltb 0xFFFFFF address) ∷ []
+    (refusal.Count, miscounted (s .shared .board .count)) ∷ (refusal.FunctionCode, ltb 15 code) ∷ (refusal.Address, ltb 0xFFFFFF address) ∷ []
 checks (Register m address operation) s =
-    (refusal.Count, miscounted (s .shared .count)) ∷ (refusal.Unit, absent m (s .shared .count)) ∷ (refusal.Register, ltb 0x3F address) ∷ []
+    (refusal.Count, miscounted (s .shared .board .count)) ∷ (refusal.Unit, absent m (s .shared .board .count)) ∷ (refusal.Register, ltb 0x3F address) ∷ []
 checks (Acknowledge m) s =
-    (refusal.Count, miscounted (s .shared .count)) ∷ (refusal.Unit, absent m (s .shared .count)) ∷ (refusal.Interrupt, not (irq s)) ∷ []
+    (refusal.Count, miscounted (s .shared .board .count)) ∷ (refusal.Unit, absent m (s .shared .board .count)) ∷ (refusal.Interrupt, not (irq s)) ∷ []
 
 abbrev pub unrefused : Call → System → Outcome
-unrefused (Start count selected) s = granted Done (fresh count selected)
-unrefused (Reset selected) s = granted Done (fresh (s .shared .count) selected)
+unrefused (Start count selected) s = granted Done (fresh (board count) selected)
+unrefused (Reset selected) s = granted Done (fresh (board (s .shared .board .count)) selected)
 unrefused (Access code cycle address) s = translate code cycle address s
 unrefused (Register m address operation) s = operate operation (register-at address) m s
 unrefused (Acknowledge m) s = granted (Byte (s .shared .ivr)) s

@@ -11,6 +11,7 @@ use lib.ListN.{getD, set, getD-replicate}
 use Rattle.registers.specs.Unit.{global, local, no-unit, byte, ac, write-ac}
 use Rattle.registers.specs.declared.unit.Byte.{Byte}
 use Rattle.registers.specs.declared.unit.Unit.{Unit}
+use Rattle.registers.specs.declared.shared.Board.{Board}
 use Rattle.chip.specs.System.{present, unit, with-units, with-shared, with-descriptor, with-unit, in-each, in-all}
 use Rattle.chip.specs.Reset.{blank, unselected, fresh}
 use Rattle.chip.specs.Call.{performed}
@@ -65,11 +66,11 @@ global-agreed s i value a j m k hm hk =
     at = each-related (λ u v. v ≡ write-ac i value u) no-unit (present s) (λ k. write-ac i value) (s .units) refl (λ k u. refl)
 
 -- 4.5.1
-pub fresh-agreed : (count : ℕ) (selected : Selected) → Agreed (fresh count selected)
+pub fresh-agreed : (board : Board) (selected : Selected) → Agreed (fresh board selected)
 unfolding fresh unselected Agreed with-shared with-descriptor
-fresh-agreed count = elim [ selected.Nobody ↦ cleared | selected.Unit m ↦ cleared ]
+fresh-agreed board = elim [ selected.Nobody ↦ cleared | selected.Unit m ↦ cleared ]
   where
-    cleared : Agreed (unselected count)
+    cleared : Agreed (unselected board)
     cleared =
         units-agreed _ _ (λ m u i g. refl)
         (λ i m k hm hk. rw (getD-replicate 6 m blank no-unit (omega arith), getD-replicate 6 k blank no-unit (omega arith)) (λ gm gk. refl))
@@ -79,7 +80,7 @@ fresh-agreed count = elim [ selected.Nobody ↦ cleared | selected.Unit m ↦ cl
 pub changes-agreed : (s t : System) → Changes s t → Agreed s → Agreed t
 unfolding Agreed with-shared with-descriptor
 changes-agreed s t changes.stays a = a
-changes-agreed s t (changes.renewed count selected few h) a = fresh-agreed count selected
+changes-agreed s t (changes.renewed board selected few h) a = fresh-agreed board selected
 changes-agreed s t (changes.units {t = t′} f h c) a = units-agreed t′ f h (changes-agreed s t′ c a)
 changes-agreed s t (changes.one-unit {t = t′} m u h c) a = unit-agreed t′ m u h (changes-agreed s t′ c a)
 changes-agreed s t (changes.global {t = t′} i value c) a = global-agreed t′ i value (changes-agreed s t′ c a)

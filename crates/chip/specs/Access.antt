@@ -70,6 +70,6 @@ translate code cycle address s =
 unfoldable pub access : (code : ℕ) → Cycle → (address : ℕ) → System → Outcome
 access code cycle address s =
     checked
-    ((refusal.Count, miscounted (s .shared .count)) ∷ (refusal.FunctionCode, ltb 15 code)
+    ((refusal.Count, miscounted (s .shared .board .count)) ∷ (refusal.FunctionCode, ltb 15 code)
     ∷ (refusal.Address, ltb 0xFFFFFF address) ∷ [])
     s (translate code cycle address s)

@@ -13,6 +13,6 @@ use Rattle.chip.specs.declared.answer.Outcome.{Outcome}
 unfoldable pub acknowledge : (unit : ℕ) → System → Outcome
 acknowledge unit s =
     checked
-    ((refusal.Count, miscounted (s .shared .count)) ∷ (refusal.Unit, absent unit (s .shared .count))
+    ((refusal.Count, miscounted (s .shared .board .count)) ∷ (refusal.Unit, absent unit (s .shared .board .count))
     ∷ (refusal.Interrupt, not (irq s)) ∷ [])
     s (granted (Byte (s .shared .ivr)) s)

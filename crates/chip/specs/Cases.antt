@@ -5,6 +5,7 @@ use mathlib.Core.Bool.{Bool, true, _&&_}
 use mathlib.Core.List.{List, [], _∷_, _++_}
 use lib.Dec.{eqb}
 use Rattle.descriptors.specs.Descriptor.{bytes}
+use Rattle.registers.specs.Shared.{board}
 use Rattle.chip.specs.Answer.{done, byte-read, mapped, undefined, values}
 use Rattle.chip.specs.Reset.{unselected, start}
 use Rattle.chip.specs.Access.{access}
@@ -129,5 +130,5 @@ cases =
 abbrev pub all-hold : List Case → Bool
 all-hold [] = true
 all-hold (c ∷ cs) =
-    let o = start 1 (c .unit) (unselected 0) in
+    let o = start 1 (c .unit) (unselected (board 0)) in
     eqb (values (o .answer) .kind) done && holds (c .steps) (o .system) && all-hold cs

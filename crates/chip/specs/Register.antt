@@ -84,6 +84,6 @@ operate (Write value) r m s = granted Done (write r m value s)
 unfoldable pub register : (unit address : ℕ) → Operation → System → Outcome
 register unit address operation s =
     checked
-    ((refusal.Count, miscounted (s .shared .count)) ∷ (refusal.Unit, absent unit (s .shared .count))
+    ((refusal.Count, miscounted (s .shared .board .count)) ∷ (refusal.Unit, absent unit (s .shared .board .count))
     ∷ (refusal.Register, ltb 0x3F address) ∷ [])
     s (operate operation (register-at address) unit s)

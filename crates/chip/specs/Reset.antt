@@ -9,6 +9,8 @@ use Rattle.chip.specs.System.{with-descriptor, with-shared, in-all}
 use Rattle.chip.specs.Answer.{granted, checked, miscounted, absent}
 use Rattle.descriptors.specs.declared.descriptor.Descriptor.{Descriptor}
 use Rattle.registers.specs.declared.unit.Unit.{Unit}
+use Rattle.registers.specs.Shared.{board}
+use Rattle.registers.specs.declared.shared.Board.{Board}
 use Rattle.registers.specs.declared.shared.Shared.{Shared}
 use Rattle.chip.specs.declared.system.System.{System}
 use Rattle.chip.specs.declared.reset.Selected.{Selected}
@@ -22,29 +24,29 @@ abbrev pub blank : Unit
 blank = record { accumulator = replicate 9 (local 0); dp = 0; rdp = 0; l = 0; rw = false }
 
 -- the table and the GSR zero, the IVR $0F
-abbrev pub uninitialized : (count : ℕ) → Shared
-uninitialized count = record { table = replicate 16 0; gsr = record { f = false; df = false; ie = false }; ivr = 0x0F; count = count }
+abbrev pub uninitialized : Board → Shared
+uninitialized b = record { table = replicate 16 0; gsr = record { f = false; df = false; ie = false }; ivr = 0x0F; board = b }
 
 -- before the first start: no unit, every register zero
 abbrev pub nothing : System
 nothing = record {
   descriptors = replicate 192 zeros;
   units = replicate 6 blank;
-  shared = record { table = replicate 16 0; gsr = record { f = false; df = false; ie = false }; ivr = 0; count = 0 };
+  shared = record { table = replicate 16 0; gsr = record { f = false; df = false; ie = false }; ivr = 0; board = board 0 };
 }
 
 -- every descriptor is disabled (and zero); in each unit there is the RDP is $80
-unfoldable pub unselected : (count : ℕ) → System
-unselected count = in-all (report NO none) (with-shared nothing (uninitialized count))
+unfoldable pub unselected : Board → System
+unselected b = in-all (report NO none) (with-shared nothing (uninitialized b))
 
 -- descriptor 0 of the selected MMU: LAM and ASN $00, ASM $FF, the enable bit set
 abbrev pub identity : Descriptor
 identity = record { lba = 0; lam = 0; pba = 0; asn = 0; ssr = 0x01; asm = 0xFF }
 
 -- the system after reset
-unfoldable pub fresh : (count : ℕ) → Selected → System
-fresh count selected.Nobody = unselected count
-fresh count (selected.Unit m) = with-descriptor (unselected count) (32 * m) identity
+unfoldable pub fresh : Board → Selected → System
+fresh b selected.Nobody = unselected b
+fresh b (selected.Unit m) = with-descriptor (unselected b) (32 * m) identity
 
 -- 2, at start and reset: "none" is allowed
 abbrev pub unselectable : Selected → (count : ℕ) → Bool
@@ -55,8 +57,8 @@ unselectable (selected.Unit m) count = absent m count
 unfoldable pub start : (count : ℕ) → Selected → System → Outcome
 start count unit s =
     checked ((refusal.Count, miscounted count) ∷ (refusal.Unit, unselectable unit count) ∷ [])
-    s (granted Done (fresh count unit))
+    s (granted Done (fresh (board count) unit))
 
 -- a reset of the units that are there
 unfoldable pub reset : Selected → System → Outcome
-reset unit s = start (s .shared .count) unit s
+reset unit s = start (s .shared .board .count) unit s

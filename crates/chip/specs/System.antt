@@ -12,7 +12,7 @@ use Rattle.chip.specs.declared.system.System.{System}
 -- how many units there are. A count above six is refused before anything is done; it counts as six
 -- here, so that each definition speaks of every system
 abbrev pub present : System → ℕ
-present s = min (s .shared .count) 6
+present s = min (s .shared .board .count) 6
 
 -- unit m
 abbrev pub unit : System → (m : ℕ) → Unit

@@ -120,7 +120,7 @@ impl System {
     pub fn access(self, function_code: u64, cycle: Cycle, address: u64) -> Outcome
         ensures { λ r. ⌜ r ≡ access «function_code» cycle address self ⌝ }
     {
-        let count = self.shared.count;
+        let count = self.shared.board.count;
         if answer::miscounted(count) {
             return self.refused(Refusal::Count);
         }

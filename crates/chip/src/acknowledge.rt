@@ -12,7 +12,7 @@ impl System {
     pub fn acknowledge(self, unit: u64) -> Outcome
         ensures { λ r. ⌜ r ≡ acknowledge unit self ⌝ }
     {
-        let count = self.shared.count;
+        let count = self.shared.board.count;
         if answer::miscounted(count) {
             return self.refused(Refusal::Count);
         }

@@ -137,7 +137,7 @@ impl System {
     pub fn register(self, unit: u64, address: u64, operation: Operation) -> Outcome
         ensures { λ r. ⌜ r ≡ register unit address operation self ⌝ }
     {
-        let count = self.shared.count;
+        let count = self.shared.board.count;
         if answer::miscounted(count) {
             return self.refused(Refusal::Count);
         }

@@ -9,6 +9,7 @@ use crate::answer::Refusal;
 use crate::system::System;
 use descriptors::descriptor::Descriptor;
 use descriptors::status;
+use registers::shared::Board;
 use registers::shared::Gsr;
 use registers::shared::Shared;
 use registers::unit;
@@ -66,8 +67,8 @@ fn blank() -> Unit
     }
 }
 
-fn uninitialized(count: usize) -> Shared
-    ensures { λ r. ⌜ r ≡ uninitialized count ⌝ }
+fn uninitialized(board: Board) -> Shared
+    ensures { λ r. ⌜ r ≡ uninitialized board ⌝ }
 {
     let table = [0u8; 16];
     let gsr = Gsr {
@@ -79,7 +80,7 @@ fn uninitialized(count: usize) -> Shared
         table,
         gsr,
         ivr: 0x0F,
-        count,
+        board,
     }
 }
 
@@ -102,7 +103,7 @@ impl System {
             table,
             gsr,
             ivr: 0,
-            count: 0,
+            board: Board { count: 0 },
         };
         System {
             descriptors,
@@ -111,11 +112,11 @@ impl System {
         }
     }
 
-    fn unselected(count: usize) -> System
-        ensures { λ r. ⌜ r ≡ unselected count ⌝ }
+    fn unselected(board: Board) -> System
+        ensures { λ r. ⌜ r ≡ unselected board ⌝ }
     {
         System::nothing()
-            .with_shared(uninitialized(count))
+            .with_shared(uninitialized(board))
             .in_all(Change::Report(unit::NO, unit::NONE))
     }
 
@@ -127,12 +128,13 @@ impl System {
         if answer::miscounted(n) {
             return self.refused(Refusal::Count);
         }
+        let board = Board { count: n };
         match selected {
-            Selected::Nobody => System::unselected(n).granted(Answer::Done),
+            Selected::Nobody => System::unselected(board).granted(Answer::Done),
             Selected::Unit(m) => {
                 if m < count {
                     let i = 32 * (m as usize);
-                    System::unselected(n)
+                    System::unselected(board)
                         .with_descriptor(i, identity())
                         .granted(Answer::Done)
                 } else {
@@ -146,7 +148,7 @@ impl System {
     pub fn reset(self, selected: Selected) -> Outcome
         ensures { λ r. ⌜ r ≡ reset selected self ⌝ }
     {
-        let count = self.shared.count;
+        let count = self.shared.board.count;
         self.start(count as u64, selected)
     }
 }

@@ -18,7 +18,7 @@ impl System {
     pub(crate) fn present(self) -> usize
         ensures { λ r. ⌜ r ≡ present self ⌝ }
     {
-        let count = self.shared.count;
+        let count = self.shared.board.count;
         if count < 6 { count } else { 6 }
     }
 

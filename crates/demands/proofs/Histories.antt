@@ -12,6 +12,7 @@ use lib.Dec.{eqb, lit<}
 use lib.ListN.{take, drop, take-append-drop}
 use lib.Seq.{take-at}
 use borrow.Author.Tests.{eqb-true, eqb-false}
+use Rattle.registers.specs.Shared.{board}
 use Rattle.chip.specs.Answer.{number, values, refused, granted}
 use Rattle.chip.specs.Reset.{reset}
 use Rattle.chip.specs.Call.{performed}
@@ -63,9 +64,9 @@ started-kept count selected s =
     (λ n e.
     let few = well-counted count (n .0) in
     record {
-      clean = fresh-clean count selected few (n .1 .0);
-      apart = fresh-apart count selected few (n .1 .0) .1;
-      agreed = fresh-agreed count selected;
+      clean = fresh-clean (board count) selected few (n .1 .0);
+      apart = fresh-apart (board count) selected few (n .1 .0) .1;
+      agreed = fresh-agreed (board count) selected;
     })
 
 -- ---- a block
@@ -137,7 +138,7 @@ unfolding performed reset
 reached-good (histories.started {units} {selected} {before} k granted) =
     begun _ (start-made k) granted (started-kept units (selected-by selected) (read before))
 reached-good (histories.was-reset {selected} {before} k granted) =
-    begun _ (reset-made k) granted (started-kept (read before .shared .count) (selected-by selected) (read before))
+    begun _ (reset-made k) granted (started-kept (read before .shared .board .count) (selected-by selected) (read before))
 reached-good (histories.called r k) =
     let m = any-made k in
     followed (m .0) (reached-good r) (m .1)

@@ -119,7 +119,7 @@ access-answer code cycle address s t same still n =
 
     checks-at : Shared → List (Refusal × Bool)
     checks-at h =
-        (refusals.Count, miscounted (h .count)) ∷ (refusals.FunctionCode, ltb 15 code) ∷ (refusals.Address, ltb 0xFFFFFF address) ∷ []
+        (refusals.Count, miscounted (h .board .count)) ∷ (refusals.FunctionCode, ltb 15 code) ∷ (refusals.Address, ltb 0xFFFFFF address) ∷ []
 
 -- an answer but for IRQ
 abbrev Same-answer : (before later : ℕ) → Type 0

@@ -119,7 +119,7 @@ unselected-number n units = go (eqb n none)
 pub demand-1 : Demand-1
 demand-1 = record {
   start = λ {units} {selected} k. rw (unselected-number selected units) at (refused-by _ (start-made k));
-  reset = λ {selected} {b = b} k. rw (unselected-number selected (read b .shared .count)) at (refused-by _ (reset-made k));
+  reset = λ {selected} {b = b} k. rw (unselected-number selected (read b .shared .board .count)) at (refused-by _ (reset-made k));
   access = λ k. refused-by _ (access-made k);
   register = λ k. refused-by _ (register-made k);
   acknowledge = λ k. refused-by _ (acknowledge-made k);

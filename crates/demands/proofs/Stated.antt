@@ -83,7 +83,7 @@ is-read m address s =
     (λ (o : Outcome). values (o .answer) .number ≡ 0
     → (m < present s) × (o ≡ granted (Byte (read-register (register-at address) m s .byte)) (read-register (register-at address) m s .system)))
     (call.Register m address operation.Read) s (λ r e. absurd (refusal-told r .0 e))
-    (λ n e. (counted-present m (s .shared .count) (n .0) (n .1 .0), refl))
+    (λ n e. (counted-present m (s .shared .board .count) (n .0) (n .1 .0), refl))
 
 pub record Was-read (reading : Reading) (m : ℕ) (b : List ℕ) (r : ℕ) (e : List ℕ) : Type 0 where
   pub there : m < present (read b)

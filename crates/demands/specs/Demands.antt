@@ -30,7 +30,7 @@ use Rattle.demands.specs.Histories.{Start, Reset, Access, Register, Ackn
 
 -- what a block holds
 abbrev pub count : (block : List ℕ) → ℕ
-count b = read b .shared .count
+count b = read b .shared .board .count
 
 abbrev pub places : (block : List ℕ) → ℕ
 places b = 32 * present (read b)

@@ -37,6 +37,10 @@ RW = 3
 abbrev pub none : ℕ
 none = 0x80
 
+-- 3.2.6: what the register can hold of a byte: NVR, with the number 0, or five bits of number
+abbrev pub rdp-of : (value : ℕ) → ℕ
+rdp-of value = cond (bit value 7) none (value % 32)
+
 -- a byte of the accumulator that was written globally, and one that was not
 abbrev pub global : (value : ℕ) → Byte
 global value = record { value = value; global = true }

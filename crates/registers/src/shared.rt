@@ -1,4 +1,4 @@
-// The registers of which all units hold the same, and the count (handbook 3.2.1, 3.2.3, 3.2.8).
+// The registers of which all units hold the same (handbook 3.2.1, 3.2.3, 3.2.8), and what the board is.
 ghost use mathlib.Core.Path.{_≡_};
 ghost use Rattle.registers.specs.Shared.{faulted, gsr-of, gsr-byte, entry, with-entry, with-gsr, with-ivr};
 
@@ -14,11 +14,16 @@ pub struct Gsr {
     pub ie: bool,
 }
 
+// What the board is: how many units it has.
+pub struct Board {
+    pub count: usize,
+}
+
 pub struct Shared {
     pub table: [u8; 16],
     pub gsr: Gsr,
     pub ivr: u8,
-    pub count: usize,
+    pub board: Board,
 }
 
 impl Gsr {

@@ -1,7 +1,7 @@
 // The registers that a unit has of its own: accumulator, descriptor pointers, local status (handbook 3.2.2 to 3.2.6).
 ghost use mathlib.Core.Path.{_≡_};
 ghost use Prim.Native.Nat.{_+_, _*_, _<_};
-ghost use Rattle.registers.specs.Unit.{local, ac, word, segment, needed, consistent, for-translation, for-load};
+ghost use Rattle.registers.specs.Unit.{rdp-of, local, ac, word, segment, needed, consistent, for-translation, for-load};
 ghost use Rattle.registers.specs.Unit.{with-byte, with-dp, with-rdp, with-l, with-rw, report, latch, take};
 ghost use Rattle.registers.specs.Unit.{translated, lsr};
 ghost use Rattle.registers.specs.Change.{changed};
@@ -53,6 +53,13 @@ pub enum Change {
     Rw(bool),
     Latch(u16, u8),
     Report(u8, u8),
+}
+
+// 3.2.6: what the register can hold of a byte.
+pub fn rdp_of(value: u8) -> u8
+    ensures { λ r. ⌜ r ≡ rdp-of value ⌝ }
+{
+    if value & NONE != 0 { NONE } else { value % 32 }
 }
 
 fn join(high: u8, low: u8) -> u16

@@ -16,7 +16,7 @@ use Rattle.block.proofs.write.put_shared.Tie as tie
 
 -- what stands in the slice before the table is written
 abbrev stored : List ℕ → Shared → (gsr : ℕ) → List ℕ
-stored b h gsr = set (set (set b 0 (h .count % 256)) 1 gsr) 2 (h .ivr)
+stored b h gsr = set (set (set b 0 (h .board .count % 256)) 1 gsr) 2 (h .ivr)
 
 same-length : tie.Need-same-length
 same-length c =
@@ -34,7 +34,7 @@ returns c =
     let start = at .before .before .before in
     let h = start .args .shared in
     let b : List ℕ = stored (at .put-zeros .last .0) h (c .before .before .before .before .before .byte .result) in
-    let front : List ℕ = h .count % 256 ∷ gsr-byte (h .gsr) ∷ h .ivr ∷ replicate 13 0 in
+    let front : List ℕ = h .board .count % 256 ∷ gsr-byte (h .gsr) ∷ h .ivr ∷ replicate 13 0 in
     let written : b ≡ front ++ drop 16 (start .args .b .now) =
     rw (at .put-zeros .ensures, c .before .before .before .before .before .byte .ensures) in
     appended front (h .table) (start .args .b .now) b (c .before .before .put-table .last .0) 16 16 refl written

@@ -31,7 +31,7 @@ returns-3 c =
 operate-requires : tie.Need-operate-requires
 operate-requires c κs =
     let tested = c .before .before .before in
-    omega (arith, well-counted (tested .before .before .args .self .shared .count) (sym (tested .before .miscounted .ensures) ∙ tested .if1 .left))
+    omega (arith, well-counted (tested .before .before .args .self .shared .board .count) (sym (tested .before .miscounted .ensures) ∙ tested .if1 .left))
 
 returns-4 : tie.Need-returns-4
 unfolding register

@@ -3,8 +3,8 @@ use mathlib.Core.Path.{sym, ap, _∙_}
 use mathlib.Core.Bool.{not}
 use borrow.Author.Tests.{eq-eqb, ne-eqb}
 use Rattle.masks.proofs.Bits.{bit-test}
-use Rattle.block.proofs.read.rdp_of.Statement.{statement}
-use Rattle.block.proofs.read.rdp_of.Tie as tie
+use Rattle.registers.proofs.unit.rdp_of.Statement.{statement}
+use Rattle.registers.proofs.unit.rdp_of.Tie as tie
 
 returns : tie.Need-returns
 returns c = rw (sym (bit-test (c .before .args .value) 7) ∙ ap not (ne-eqb _ _ (c .if1 .taken)))
