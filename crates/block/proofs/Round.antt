@@ -28,7 +28,9 @@ use Rattle.block.specs.Layout.{unit-of, descriptor-of, shared-of, system
 use Rattle.chip.specs.System.{present, unit, descriptor, each}
 use Rattle.block.proofs.Parts.{length-pieces, pieces-at}
 use Rattle.block.proofs.Lists.{gathered, filled-is}
-use Rattle.block.specs.Clean.{Clean-descriptor, Clean-unit, Clean-shared, Clean}
+use Rattle.descriptors.specs.Clean.{Clean-descriptor}
+use Rattle.registers.specs.Clean.{Clean-unit, Clean-shared}
+use Rattle.chip.specs.Clean.{Clean}
 
 -- a word in two bytes
 whole : (x : ℕ) → x % 256 + 256 * (x / 256) ≡ x

@@ -3,31 +3,32 @@
 --     one-form        writing what was read from a written block gives its bytes
 --     past-stays      bytes past the block stay, and so does the length
 -- Assumes nothing.
-use Prim.Native.Nat.{ℕ, zero, suc, _+_, _*_, _/_, _%_, _^_, _<_, _≤_, min}
+use Prim.Native.Nat.{ℕ, zero, suc, _+_, _*_, _^_, _<_, _≤_, min}
 use mathlib.Core.Path.{_≡_, refl, ap, _∙_}
-use mathlib.Core.Bool.{Bool, true, false, not, _&&_, _||_, cond}
+use mathlib.Core.Bool.{Bool, true, false, cond}
 use mathlib.Core.List.{List, [], _∷_, _++_}
-use native.Mathlib.Nat.{not-suc-le-zero}
 use native.Mathlib.Omega.{arith}
-use lib.Dec.{eqb, ltb, lit<}
+use lib.Dec.{ltb, lit<}
 use lib.ListN.{length, take, drop, getD, replicate, length-drop, length-take, length-replicate, getD-replicate, List·getD-eq-default}
 use lib.Seq.{drop-at, getD-drop}
 use borrow.Author.Tests.{ltb-true, ltb-false}
-use Rattle.masks.specs.Fields.{bit}
-use Rattle.masks.proofs.Bits.{bit-field, field-cong}
-use Rattle.descriptors.specs.Status.{E, IP, reserved, clean}
 use Rattle.descriptors.specs.Descriptor.{zeros}
-use Rattle.registers.specs.Unit.{none, rdp-of, local, no-unit, ac}
+use Rattle.registers.specs.Unit.{local, no-unit, ac}
 use Rattle.registers.specs.Shared.{entry}
 use Rattle.chip.specs.System.{each}
 use Rattle.chip.specs.Reset.{blank, nothing}
+use Rattle.descriptors.proofs.Clean.{clean-twice}
+use Rattle.registers.proofs.Clean.{rdp-twice}
+use Rattle.chip.proofs.Clean.{nothing-clean}
 use Rattle.chip.proofs.Each.{each-at, each-past, length-each}
 use Rattle.descriptors.specs.declared.descriptor.Descriptor.{Descriptor}
 use Rattle.registers.specs.declared.unit.Unit.{Unit}
 use Rattle.chip.specs.declared.system.System.{System}
 use Rattle.block.specs.Layout.{Bytes, size, unit-place, descriptor-place, nine, byte-of, form, written}
 use Rattle.block.specs.Layout.{unit-of, descriptor-of, shared-of, system-of, read}
-use Rattle.block.specs.Clean.{Clean-descriptor, Clean-unit, Clean-shared, Clean}
+use Rattle.descriptors.specs.Clean.{Clean-descriptor}
+use Rattle.registers.specs.Clean.{Clean-unit, Clean-shared}
+use Rattle.chip.specs.Clean.{Clean}
 use Rattle.block.proofs.Round.{length-form, system-back}
 
 bytes-drop : (n : ℕ) (b : List ℕ) → Bytes b → Bytes (drop n b)
@@ -41,35 +42,6 @@ bytes-take (suc n) (x ∷ b) h (suc i) = bytes-take n b (λ k. h (suc k)) i
 
 word-fits : {x y : ℕ} → x < 2 ^ 8 → y < 2 ^ 8 → x + 256 * y < 2 ^ 16
 word-fits h k = omega arith
-
--- the clean form of a status is clean, bit by bit
-kept : (x i : ℕ) → Bool
-kept x i = cond (reserved i || (eqb i IP && not (bit x E))) false (bit x i)
-
-clean-bit : (x i : ℕ) → i < 8 → bit (clean x) i ≡ kept x i
-unfolding clean kept
-clean-bit x i h = bit-field 8 (kept x) i h
-
-pub clean-twice : (x : ℕ) → clean (clean x) ≡ clean x
-unfolding clean kept
-clean-twice x =
-    field-cong 8 (kept (clean x)) (kept x)
-    (λ i h. rw (clean-bit x E (lit< tt), clean-bit x i h) (twice (reserved i || (eqb i IP && not (bit x E))) (bit x i)))
-  where
-    twice : (b v : Bool) → cond b false (cond b false v) ≡ cond b false v
-    twice true v = refl
-    twice false v = refl
-
-rdp-twice : (x : ℕ) → rdp-of (rdp-of x) ≡ rdp-of x
-unfolding bit
-rdp-twice x = go (bit x 7)
-  where
-    go : (b : Bool) → rdp-of (cond b none (x % 32)) ≡ cond b none (x % 32)
-    go true = refl
-    go false =
-        let low : x % 32 / 128 % 2 ≡ 0 = omega arith in
-        let same : x % 32 % 32 ≡ x % 32 = omega arith in
-        rw (low, same)
 
 clean-descriptor : (b : List ℕ) → Bytes b → Clean-descriptor (descriptor-of b)
 unfolding descriptor-of
@@ -145,27 +117,12 @@ clean-system b l h =
       no-descriptor = λ i k q. filled-past zeros (32 * n) 192 d zeros i k q;
     }
 
-clean-nothing : Clean nothing
-clean-nothing = record {
-  shared = record { entries = refl; entry = bytes-zero 16; ivr = lit< tt; count = lit< tt };
-  places = (refl, refl);
-  units = λ m k. absurd (not-suc-le-zero k);
-  descriptors = λ i k. absurd (not-suc-le-zero k);
-  no-unit = λ m k q. getD-replicate 6 m blank no-unit q;
-  no-descriptor = λ i k q. getD-replicate 192 i zeros zeros q;
-}
-  where
-    bytes-zero : (n : ℕ) → Bytes (replicate n 0)
-    bytes-zero zero i = lit< tt
-    bytes-zero (suc n) zero = lit< tt
-    bytes-zero (suc n) (suc i) = bytes-zero n i
-
 pub read-clean : (b : List ℕ) → Bytes b → Clean (read b)
 unfolding read
 read-clean b h = go (ltb (length b) size) refl
   where
     go : (t : Bool) → ltb (length b) size ≡ t → Clean (cond t nothing (system-of b))
-    go true q = clean-nothing
+    go true q = nothing-clean
     go false q = clean-system b (ltb-false (length b) size q) h
 
 -- writing what was read from a written block gives its bytes

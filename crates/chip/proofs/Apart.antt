@@ -1,14 +1,12 @@
--- The enabled descriptors stay apart (demand 3, first sentence): every change of a call keeps it that no two of them clash.
---     changes-apart       after any changes
---     performed-apart     so after any call
+-- The enabled descriptors stay apart (demand 3, first sentence): every step of a call keeps it that no two of them clash.
+--     steps-apart       after any steps, and so after any call
 -- Assumes nothing.
-use Prim.Native.Nat.{ℕ, zero, suc, _*_, _<_, _≤_}
+use Prim.Native.Nat.{ℕ, _*_, _<_, _≤_}
 use mathlib.Core.Path.{_≡_, refl, sym, _∙_}
-use mathlib.Core.Logic.{_≢_}
 use mathlib.Core.Bool.{Bool, true, false, false≢true}
 use native.Mathlib.Omega.{arith}
 use lib.Dec.{eqb, ltb}
-use lib.ListN.{length, getD, replicate, length-set}
+use lib.ListN.{length}
 use borrow.Author.Tests.{eqb-true, eqb-false, ltb-true, not-false}
 use Rattle.masks.specs.Fields.{bit}
 use Rattle.descriptors.specs.Status.{E}
@@ -18,14 +16,14 @@ use Rattle.descriptors.specs.declared.descriptor.Descriptor.{Descriptor}
 use Rattle.registers.specs.declared.shared.Board.{Board}
 use Rattle.chip.specs.System.{present, descriptor, with-units, with-shared, with-descriptor}
 use Rattle.chip.specs.Reset.{identity, unselected, fresh, unselectable}
-use Rattle.chip.specs.Call.{performed}
+use Rattle.chip.specs.Clean.{Clean}
 use Rattle.chip.specs.declared.system.System.{System}
 use Rattle.chip.specs.declared.reset.Selected.{Selected}
 use Rattle.chip.specs.declared.reset.Selected.the-variants as selected
-use Rattle.chip.specs.declared.call.Call.{Call}
+use Rattle.registers.proofs.Numbers.{everywhere}
 use Rattle.chip.proofs.Once.{Apart}
 use Rattle.chip.proofs.Parts.{descriptor-there, descriptor-elsewhere}
-use Rattle.chip.proofs.Changes.{Clear, Changes, stays, renewed, units, one-unit, global, shared, status, loaded, performed-changes}
+use Rattle.chip.proofs.Steps.{Clear, Steps, stays, renewed, units, turned, global, one-unit, shared, status, loaded, steps-clean}
 
 -- ---- a descriptor replaced by one that clashes with no other
 
@@ -77,50 +75,32 @@ status-clear s i ssr inside h apart k l n e f = go (clashes (descriptor s i) (de
 
 -- ---- 4.5.1: every descriptor is zero; then one is the identity
 
-zero-everywhere : (n i : ℕ) → getD (replicate n zeros) i zeros ≡ zeros
-zero-everywhere zero i = refl
-zero-everywhere (suc n) zero = refl
-zero-everywhere (suc n) (suc i) = zero-everywhere n i
-
 off : (board : Board) (i : ℕ) → enabled (descriptor (unselected board) i) ≡ false
 unfolding unselected with-units with-shared bit
-off board i = rw (zero-everywhere 192 i)
+off board i = rw (everywhere 192 i zeros)
 
-unselected-apart : (board : Board) → (length (unselected board .descriptors) ≡ 192) × Apart (unselected board)
-unfolding Apart unselected with-units with-shared
-unselected-apart board = (refl, λ i j hi hj ei ej c. absurd (false≢true (sym (off board i) ∙ ei)))
+unselected-apart : (board : Board) → Apart (unselected board)
+unfolding Apart
+unselected-apart board i j hi hj ei ej c = absurd (false≢true (sym (off board i) ∙ ei))
 
-pub fresh-apart : (board : Board) (unit : Selected) → board .count ≤ 6 → unselectable unit (board .count) ≡ false
-    → (length (fresh board unit .descriptors) ≡ 192) × Apart (fresh board unit)
-unfolding fresh Clear with-descriptor
+pub fresh-apart : (board : Board) (unit : Selected) → board .count ≤ 6 → unselectable unit (board .count) ≡ false → Apart (fresh board unit)
+unfolding fresh Clear unselected with-units with-shared
 fresh-apart board selected.Nobody few h = unselected-apart board
 fresh-apart board (selected.Unit m) few h =
-    let u = unselected-apart board in
-    let below = ltb-true m (board .count) (not-false (ltb m (board .count)) h) in (
-      length-set (unselected board .descriptors) (32 * m) identity ∙ u .0,
-      replaced-apart (unselected board) (32 * m) identity (omega (arith, u .0)) (u .1)
-          (λ k l n e f. absurd (false≢true (sym (off board k) ∙ f))),
-    )
+    let below = ltb-true m (board .count) (not-false (ltb m (board .count)) h) in
+    replaced-apart (unselected board) (32 * m) identity (omega (arith, below)) (unselected-apart board)
+    (λ k l n e f. absurd (false≢true (sym (off board k) ∙ f)))
 
--- ---- any changes
-
-pub changes-apart : (s t : System) → Changes s t → length (s .descriptors) ≡ 192 → Apart s
-    → (length (t .descriptors) ≡ 192) × Apart t
+pub steps-apart : {s t : System} → Steps s t → Clean s → Apart s → Apart t
 unfolding Apart with-units with-shared with-descriptor
-changes-apart s t stays l apart = (l, apart)
-changes-apart s t (renewed board selected few h) l apart = fresh-apart board selected few h
-changes-apart s t (units {t = t′} f h c) l apart = changes-apart s t′ c l apart
-changes-apart s t (one-unit {t = t′} m u h c) l apart = changes-apart s t′ c l apart
-changes-apart s t (global {t = t′} i value c) l apart = changes-apart s t′ c l apart
-changes-apart s t (shared {t = t′} h e c) l apart = rw e (changes-apart s t′ c l apart)
-changes-apart s t (status {t = t′} i ssr inside h c) l apart =
-    let k = changes-apart s t′ c l apart in (
-      length-set (t′ .descriptors) i _ ∙ k .0,
-      replaced-apart t′ i _ (omega (arith, k .0)) (k .1) (status-clear t′ i ssr inside h (k .1)),
-    )
-changes-apart s t (loaded {t = t′} i d inside clear c) l apart =
-    let k = changes-apart s t′ c l apart in
-    (length-set (t′ .descriptors) i d ∙ k .0, replaced-apart t′ i d (omega (arith, k .0)) (k .1) clear)
-
-pub performed-apart : (c : Call) (s : System) → length (s .descriptors) ≡ 192 → Apart s → Apart (performed c s .system)
-performed-apart c s l apart = changes-apart s (performed c s .system) (performed-changes c s) l apart .1
+steps-apart stays c a = a
+steps-apart (renewed board selected few h) c a = fresh-apart board selected few h
+steps-apart (units f e k) c a = steps-apart k c a
+steps-apart (turned reads f e k) c a = steps-apart k c a
+steps-apart (global i value h k) c a = steps-apart k c a
+steps-apart (one-unit m u h e k) c a = steps-apart k c a
+steps-apart (shared h e keep k) c a = rw e (steps-apart k c a)
+steps-apart (status {t} i ssr h clear off k) c a =
+    let q = steps-apart k c a in
+    replaced-apart t i _ (omega (arith, steps-clean k c .places .1)) q (status-clear t i ssr h off q)
+steps-apart (loaded {t} i d h clear off k) c a = replaced-apart t i d (omega (arith, steps-clean k c .places .1)) (steps-apart k c a) off

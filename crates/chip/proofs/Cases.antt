@@ -7,18 +7,19 @@ use Rattle.descriptors.specs.Descriptor.{matches, clashes}
 use Rattle.chip.specs.System.{with-units, with-shared, with-descriptor, each}
 use Rattle.chip.specs.Search.{first}
 use Rattle.chip.specs.Answer.{refused, granted}
-use Rattle.chip.specs.Reset.{unselected, fresh, start}
-use Rattle.chip.specs.Access.{fault, violation, undefined, match-at, translate-at, translate, access}
+use Rattle.chip.specs.Reset.{unselected, fresh}
+use Rattle.chip.specs.Access.{fault, violation, undefined, match-at, translate-at, translate}
 use Rattle.chip.specs.Transfer.{transfer, write-status}
 use Rattle.chip.specs.Prepare.{send, prepare}
 use Rattle.chip.specs.Load.{load-at, load}
 use Rattle.chip.specs.Translation.{result-at, direct-translation}
-use Rattle.chip.specs.Register.{register-at, read, write-gsr, write, operate, register}
+use Rattle.chip.specs.Register.{register-at, read, write-gsr, write, operate}
+use Rattle.chip.specs.Call.{performed}
 use Rattle.chip.specs.Cases.{cases, all-hold}
 
 pub cases-hold : all-hold cases ≡ true
 unfolding bit field every alike agree clash gate raise lower clean used modified disabled rewritten matches
-    clashes with-units with-shared with-descriptor each first refused granted unselected fresh start
-    fault violation undefined match-at translate-at translate access transfer write-status send prepare
-    load-at load result-at direct-translation register-at read write-gsr write operate register
+    clashes with-units with-shared with-descriptor each first refused granted unselected fresh
+    fault violation undefined match-at translate-at translate transfer write-status send prepare
+    load-at load result-at direct-translation register-at read write-gsr write operate performed
 cases-hold = refl

@@ -1,38 +1,43 @@
--- The checks of a call: a refusal leaves the system, and past the last of them none applies.
---     refusal-told     a refusal's number is told from that of a granted call
---     either           what holds of both branches, each with how it came about
---     as-checked       a call by name is its checks, and what it does past them
---     outcome-law      what holds of every refusal, and of the outcome where no check applies, holds of the call's outcome
---     performed-law    so of the system that the call leaves
+-- The checks of a call, in one law: where none applies the call is carried out; else it is the refusal of the first that does, which
+-- leaves the system.
+--     either               what holds of both branches, each with how it came about
+--     refusal-told         a refusal's number is told from that of a granted call, and is a byte
+--     checks-law           what holds of every refusal with its number, and with 0 where no check applies, holds of the call's outcome
+--                          with the table's number
+--     outcome-law, performed-law      so of the outcome alone, and of the system that the call leaves
+--     carried-out-granted  past its checks a call is granted
+--     performed-number     the outcome tells the table's number
+--     performed-granted    where that is 0, the call is carried out
+--     refused-system       where it is not, the system is as it was
 -- Assumes nothing.
-use Prim.Native.Nat.{_<_, _^_}
+use Prim.Native.Nat.{ℕ, _<_, _^_}
 use mathlib.Core.Path.{_≡_, refl}
 use mathlib.Core.Logic.{_≢_}
-use mathlib.Core.Bool.{Bool, true, false, not, cond}
+use mathlib.Core.Bool.{Bool, true, false, _&&_, cond}
 use mathlib.Core.List.{List, [], _∷_}
 use native.Mathlib.Omega.{arith}
-use lib.Dec.{ltb}
-use Rattle.registers.specs.Shared.{board}
-use Rattle.chip.specs.Search.{irq}
-use Rattle.chip.specs.Answer.{number, refused, granted, checked, miscounted, absent}
-use Rattle.chip.specs.Reset.{unselectable, fresh, start, reset}
-use Rattle.chip.specs.Access.{translate, access}
-use Rattle.chip.specs.Register.{register-at, operate, register}
-use Rattle.chip.specs.Acknowledge.{acknowledge}
-use Rattle.chip.specs.Call.{performed}
+use lib.Dec.{lit<}
+use Rattle.descriptors.specs.Descriptor.{protected}
+use Rattle.chip.specs.System.{descriptor}
+use Rattle.chip.specs.Answer.{number, values, refused, granted, checked, first-of, numbered}
+use Rattle.chip.specs.Access.{writes, match-at, translate-at, translate}
+use Rattle.chip.specs.Register.{operate}
+use Rattle.chip.specs.Call.{checks, carried-out, performed}
 use Rattle.chip.specs.declared.system.System.{System}
+use Rattle.chip.specs.declared.access.Cycle.{Cycle}
+use Rattle.chip.specs.declared.search.Found.{Found}
+use Rattle.chip.specs.declared.search.Found.the-variants.{At, Nowhere}
+use Rattle.chip.specs.declared.register.Operation.the-variants as operation
 use Rattle.chip.specs.declared.answer.Refusal.{Refusal}
 use Rattle.chip.specs.declared.answer.Refusal.the-variants as refusal
-use Rattle.chip.specs.declared.answer.Answer.the-variants.{Done, Byte}
 use Rattle.chip.specs.declared.answer.Outcome.{Outcome}
 use Rattle.chip.specs.declared.call.Call.{Call}
-use Rattle.chip.specs.declared.call.Call.the-variants.{Start, Reset, Access, Register, Acknowledge}
+use Rattle.chip.specs.declared.call.Call.the-variants as call
 
 pub either : {A : Type 0} (P : A → Type 0) (b : Bool) {x y : A} → (b ≡ true → P x) → (b ≡ false → P y) → P (cond b x y)
 either P true h k = h refl
 either P false h k = k refl
 
--- the number of a refusal is none of a granted call, and a byte
 pub refusal-told : (r : Refusal) → (number r ≢ 0) × (number r < 2 ^ 8)
 refusal-told refusal.Count = (λ e. omega arith, omega arith)
 refusal-told refusal.Unit = (λ e. omega arith, omega arith)
@@ -45,43 +50,60 @@ abbrev pub none-of : List (Refusal × Bool) → Type 0
 none-of [] = Unit
 none-of (c ∷ cs) = (c .1 ≡ false) × none-of cs
 
-checked-law : (P : Outcome → Type 0) (cs : List (Refusal × Bool)) (s : System) (o : Outcome)
-    → ((r : Refusal) → P (refused r s)) → (none-of cs → P o) → P (checked cs s o)
+checked-law : (P : ℕ → Outcome → Type 0) (cs : List (Refusal × Bool)) (s : System) (o : Outcome)
+    → ((r : Refusal) → P (number r) (refused r s)) → (none-of cs → P 0 o) → P (first-of (numbered cs)) (checked cs s o)
 checked-law P [] s o h k = k tt
-checked-law P (c ∷ cs) s o h k = either P (c .1) (λ e. h (c .0)) (λ e. checked-law P cs s o h (λ n. k (e, n)))
+checked-law P (c ∷ cs) s o h k = go (c .1) (h (c .0)) (λ e. checked-law P cs s o h (λ n. k (e, n)))
+  where
+    go : (b : Bool) → P (number (c .0)) (refused (c .0) s) → (b ≡ false → P (first-of (numbered cs)) (checked cs s o))
+        → P (cond b (number (c .0)) (first-of (numbered cs))) (cond b (refused (c .0) s) (checked cs s o))
+    go true here later = here
+    go false here later = later refl
 
--- each call by name: its checks, and what it does past them
-abbrev pub checks : Call → System → List (Refusal × Bool)
-checks (Start count selected) s = (refusal.Count, miscounted count) ∷ (refusal.Unit, unselectable selected count) ∷ []
-checks (Reset selected) s =
-    (refusal.Count, miscounted (s .shared .board .count)) ∷ (refusal.Unit, unselectable selected (s .shared .board .count)) ∷ []
-checks (Access code cycle address) s =
-    (refusal.Count, miscounted (s .shared .board .count)) ∷ (refusal.FunctionCode, ltb 15 code) ∷ (refusal.Address, ltb 0xFFFFFF address) ∷ []
-checks (Register m address operation) s =
-    (refusal.Count, miscounted (s .shared .board .count)) ∷ (refusal.Unit, absent m (s .shared .board .count)) ∷ (refusal.Register, ltb 0x3F address) ∷ []
-checks (Acknowledge m) s =
-    (refusal.Count, miscounted (s .shared .board .count)) ∷ (refusal.Unit, absent m (s .shared .board .count)) ∷ (refusal.Interrupt, not (irq s)) ∷ []
+module _ (c : Call) (s : System) where
+  pub checks-law : (P : ℕ → Outcome → Type 0) → ((r : Refusal) → P (number r) (refused r s))
+      → (none-of (checks c s) → P 0 (carried-out c s)) → P (first-of (numbered (checks c s))) (performed c s)
+  unfolding performed
+  checks-law P h k = checked-law P (checks c s) s (carried-out c s) h k
 
-abbrev pub unrefused : Call → System → Outcome
-unrefused (Start count selected) s = granted Done (fresh (board count) selected)
-unrefused (Reset selected) s = granted Done (fresh (board (s .shared .board .count)) selected)
-unrefused (Access code cycle address) s = translate code cycle address s
-unrefused (Register m address operation) s = operate operation (register-at address) m s
-unrefused (Acknowledge m) s = granted (Byte (s .shared .ivr)) s
+  pub outcome-law : (P : Outcome → Type 0) → ((r : Refusal) → P (refused r s)) → (none-of (checks c s) → P (carried-out c s))
+      → P (performed c s)
+  outcome-law P = checks-law (λ n. P)
 
-pub as-checked : (c : Call) (s : System) → performed c s ≡ checked (checks c s) s (unrefused c s)
-unfolding performed start reset access register acknowledge
-as-checked (Start count selected) s = refl
-as-checked (Reset selected) s = refl
-as-checked (Access code cycle address) s = refl
-as-checked (Register m address operation) s = refl
-as-checked (Acknowledge m) s = refl
+  pub performed-law : (P : System → Type 0) → P s → (none-of (checks c s) → P (carried-out c s .system)) → P (performed c s .system)
+  unfolding refused
+  performed-law P h k = outcome-law (λ (o : Outcome). P (o .system)) (λ r. h) k
 
-pub outcome-law : (P : Outcome → Type 0) (c : Call) (s : System) → ((r : Refusal) → P (refused r s))
-    → (none-of (checks c s) → P (unrefused c s)) → P (performed c s)
-outcome-law P c s h k = rw (as-checked c s) (checked-law P (checks c s) s (unrefused c s) h k)
+translated : (f : Found) (cycle : Cycle) (page number offset : ℕ) (s : System)
+    → values (translate-at f cycle page number offset s .answer) .number ≡ 0
+unfolding translate-at match-at granted
+translated (At i) cycle page number offset s =
+    either (λ (o : Outcome). values (o .answer) .number ≡ 0) (writes cycle && protected (descriptor s i)) (λ e. refl) (λ e. refl)
+translated Nowhere cycle page number offset s = refl
 
-pub performed-law : (P : System → Type 0) (c : Call) (s : System) → P s → (none-of (checks c s) → P (unrefused c s .system))
-    → P (performed c s .system)
-unfolding refused
-performed-law P c s h k = outcome-law (λ (o : Outcome). P (o .system)) c s (λ r. h) k
+pub carried-out-granted : (c : Call) (s : System) → values (carried-out c s .answer) .number ≡ 0
+unfolding granted translate operate
+carried-out-granted (call.Start count selected) s = refl
+carried-out-granted (call.Reset selected) s = refl
+carried-out-granted (call.Access code cycle address) s = translated _ cycle _ _ _ s
+carried-out-granted (call.Register m address operation.Read) s = refl
+carried-out-granted (call.Register m address (operation.Write value)) s = refl
+carried-out-granted (call.Acknowledge m) s = refl
+
+module _ (c : Call) (s : System) where
+  pub performed-number : values (performed c s .answer) .number ≡ first-of (numbered (checks c s))
+  unfolding refused
+  performed-number = checks-law c s (λ n (o : Outcome). values (o .answer) .number ≡ n) (λ r. refl) (λ n. carried-out-granted c s)
+
+  pub number-fits : values (performed c s .answer) .number < 2 ^ 8
+  unfolding refused
+  number-fits =
+      outcome-law c s (λ (o : Outcome). values (o .answer) .number < 2 ^ 8) (λ r. refusal-told r .1) (λ n. rw (carried-out-granted c s) (lit< tt))
+
+  pub performed-granted : first-of (numbered (checks c s)) ≡ 0 → none-of (checks c s) × (performed c s ≡ carried-out c s)
+  performed-granted =
+      checks-law c s (λ n o. n ≡ 0 → none-of (checks c s) × (o ≡ carried-out c s)) (λ r e. absurd (refusal-told r .0 e)) (λ n e. (n, refl))
+
+  pub refused-system : first-of (numbered (checks c s)) ≢ 0 → performed c s .system ≡ s
+  unfolding refused
+  refused-system = checks-law c s (λ n (o : Outcome). n ≢ 0 → o .system ≡ s) (λ r n. refl) (λ k n. absurd (n refl))

@@ -39,15 +39,6 @@ length-each zero f xs = refl
 length-each (suc n) f [] = refl
 length-each (suc n) f (x ∷ xs) = ap suc (length-each n (λ i. f (suc i)) xs)
 
--- what holds of each element holds after a store of something of which it holds
-pub stored : {A : Type 0} (P : ℕ → A → Type 0) (d : A) (l : List A) (i : ℕ) (x : A) → P i x → ((k : ℕ) → P k (getD l k d))
-    → (k : ℕ) → P k (getD (set l i x) k d)
-stored P d [] i x q h k = h k
-stored P d (y ∷ l) zero x q h zero = q
-stored P d (y ∷ l) zero x q h (suc k) = h (suc k)
-stored P d (y ∷ l) (suc i) x q h zero = h 0
-stored P d (y ∷ l) (suc i) x q h (suc k) = stored (λ k. P (suc k)) d l i x q (λ k. h (suc k)) k
-
 -- how each of the first n stands to what f makes of it; past the list's end there is nothing
 pub each-related : {A : Type 0} (R : A → A → Type 0) (d : A) (n : ℕ) (f : ℕ → A → A) (xs : List A) → R d d
     → ((k : ℕ) (x : A) → R x (f k x)) → (k : ℕ) → k < n → R (getD xs k d) (getD (each n f xs) k d)

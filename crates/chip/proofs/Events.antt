@@ -38,7 +38,7 @@ use Rattle.chip.proofs.Each.{length-each}
 use Rattle.chip.proofs.First.{first-found, first-missed}
 use Rattle.chip.proofs.Parts.{each-unit, unit-there, unit-elsewhere}
 use Rattle.chip.proofs.Once.{matching-found}
-use Rattle.chip.proofs.Changes.{prepare-places}
+use Rattle.chip.proofs.Steps.{prepare-places}
 use Rattle.chip.proofs.Loading.{prepared, load-is, off, collides-law}
 
 abbrev Six : System → Type 0
@@ -101,7 +101,7 @@ pub record Faults (cycle : Cycle) (s : System) (o : Outcome) : Type 0 where
 pub access-leaves : (code : ℕ) (cycle : Cycle) (address : ℕ) (s : System) → Six s → Faults cycle s (performed (call.Access code cycle address) s)
 unfolding translate translate-at match-at refused granted
 access-leaves code cycle address s us =
-    outcome-law (Faults cycle s) (call.Access code cycle address) s (λ r. record { violating = λ e. absurd (omega arith); undefined = λ e. absurd (omega arith) })
+    outcome-law (call.Access code cycle address) s (Faults cycle s) (λ r. record { violating = λ e. absurd (omega arith); undefined = λ e. absurd (omega arith) })
     (λ n. go (matching page number s) refl)
   where
     page : ℕ

@@ -5,9 +5,14 @@ pub mod Parts
 pub mod Once
 pub mod Counts
 pub mod Checked
-pub mod Changes
+pub mod Clean
+pub mod Steps
 pub mod Apart
 pub mod Marked
+pub mod Turned
+pub mod Invariants
+pub mod Still
 pub mod Loading
 pub mod Events
+pub mod Fit
 pub mod Cases

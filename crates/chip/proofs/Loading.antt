@@ -36,7 +36,7 @@ use Rattle.chip.proofs.Each.{length-each}
 use Rattle.chip.proofs.First.{First, first-at, first-found, found-of, at-some}
 use Rattle.chip.proofs.Parts.{each-unit, descriptor-there, descriptor-elsewhere}
 use Rattle.chip.proofs.Once.{matching-found}
-use Rattle.chip.proofs.Changes.{prepare-places}
+use Rattle.chip.proofs.Steps.{prepare-places}
 
 -- ---- 4.6.3: the accumulators made consistent
 

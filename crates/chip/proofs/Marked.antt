@@ -1,6 +1,5 @@
 -- No stale neighbour (handbook 3.2.4): a byte of the accumulator that is marked global in two units has the same value in both.
---     changes-agreed      after any changes
---     performed-agreed    so after any call
+--     steps-agreed      after any steps, and so after any call
 -- Assumes nothing.
 use Prim.Native.Nat.{ℕ, zero, suc, _<_}
 use mathlib.Core.Path.{_≡_, refl}
@@ -8,20 +7,19 @@ use mathlib.Core.Bool.{true, false≢true}
 use mathlib.Core.List.{List, [], _∷_}
 use native.Mathlib.Omega.{arith}
 use lib.ListN.{getD, set, getD-replicate}
-use Rattle.registers.specs.Unit.{global, local, no-unit, byte, ac, write-ac}
+use Rattle.registers.specs.Unit.{global as marked, local, no-unit, byte, ac, write-ac}
 use Rattle.registers.specs.declared.unit.Byte.{Byte}
 use Rattle.registers.specs.declared.unit.Unit.{Unit}
 use Rattle.registers.specs.declared.shared.Board.{Board}
 use Rattle.chip.specs.System.{present, unit, with-units, with-shared, with-descriptor, with-unit, in-each, in-all}
 use Rattle.chip.specs.Reset.{blank, unselected, fresh}
-use Rattle.chip.specs.Call.{performed}
 use Rattle.chip.specs.declared.system.System.{System}
 use Rattle.chip.specs.declared.reset.Selected.{Selected}
 use Rattle.chip.specs.declared.reset.Selected.the-variants as selected
-use Rattle.chip.specs.declared.call.Call.{Call}
-use Rattle.chip.proofs.Each.{stored, each-related}
-use Rattle.chip.proofs.Changes as changes
-use Rattle.chip.proofs.Changes.{Fewer, Changes, performed-changes}
+use Rattle.registers.proofs.Numbers.{stored}
+use Rattle.registers.proofs.Events.{Fewer, event-fewer}
+use Rattle.chip.proofs.Each.{each-related}
+use Rattle.chip.proofs.Steps.{Steps, stays, renewed, units, turned, global, one-unit, shared, status, loaded}
 
 unfoldable pub Agreed : System → Type 0
 Agreed s =
@@ -60,7 +58,7 @@ both-stored (b ∷ l) (c ∷ r) (suc i) x (suc j) h g k = both-stored l r i x j 
 global-agreed : (s : System) (i value : ℕ) → Agreed s → Agreed (in-all (write-ac i value) s)
 unfolding Agreed with-units
 global-agreed s i value a j m k hm hk =
-    rw (at m hm, at k hk) (both-stored (unit s m .accumulator) (unit s k .accumulator) i (global value) j (a j m k hm hk))
+    rw (at m hm, at k hk) (both-stored (unit s m .accumulator) (unit s k .accumulator) i (marked value) j (a j m k hm hk))
   where
     at : (k : ℕ) → k < present s → unit (in-all (write-ac i value) s) k ≡ write-ac i value (unit s k)
     at = each-related (λ u v. v ≡ write-ac i value u) no-unit (present s) (λ k. write-ac i value) (s .units) refl (λ k u. refl)
@@ -75,18 +73,14 @@ fresh-agreed board = elim [ selected.Nobody ↦ cleared | selected.Unit m ↦ cl
         units-agreed _ _ (λ m u i g. refl)
         (λ i m k hm hk. rw (getD-replicate 6 m blank no-unit (omega arith), getD-replicate 6 k blank no-unit (omega arith)) (λ gm gk. refl))
 
--- ---- any changes
-
-pub changes-agreed : (s t : System) → Changes s t → Agreed s → Agreed t
+pub steps-agreed : {s t : System} → Steps s t → Agreed s → Agreed t
 unfolding Agreed with-shared with-descriptor
-changes-agreed s t changes.stays a = a
-changes-agreed s t (changes.renewed board selected few h) a = fresh-agreed board selected
-changes-agreed s t (changes.units {t = t′} f h c) a = units-agreed t′ f h (changes-agreed s t′ c a)
-changes-agreed s t (changes.one-unit {t = t′} m u h c) a = unit-agreed t′ m u h (changes-agreed s t′ c a)
-changes-agreed s t (changes.global {t = t′} i value c) a = global-agreed t′ i value (changes-agreed s t′ c a)
-changes-agreed s t (changes.shared {t = t′} h e c) a = rw e (changes-agreed s t′ c a)
-changes-agreed s t (changes.status {t = t′} i ssr inside h c) a = changes-agreed s t′ c a
-changes-agreed s t (changes.loaded {t = t′} i d inside clear c) a = changes-agreed s t′ c a
-
-pub performed-agreed : (c : Call) (s : System) → Agreed s → Agreed (performed c s .system)
-performed-agreed c s a = changes-agreed s (performed c s .system) (performed-changes c s) a
+steps-agreed stays a = a
+steps-agreed (renewed board selected few h) a = fresh-agreed board selected
+steps-agreed (units {t} f e k) a = units-agreed t f (λ m u. event-fewer (e m u)) (steps-agreed k a)
+steps-agreed (turned {t} reads f e k) a = units-agreed t _ (λ m u. event-fewer (e u)) (steps-agreed k a)
+steps-agreed (global {t} i value h k) a = global-agreed t i value (steps-agreed k a)
+steps-agreed (one-unit {t} m u h e k) a = unit-agreed t m u (event-fewer e) (steps-agreed k a)
+steps-agreed (shared h e keep k) a = rw e (steps-agreed k a)
+steps-agreed (status i ssr h clear off k) a = steps-agreed k a
+steps-agreed (loaded i d h clear off k) a = steps-agreed k a

@@ -1,21 +1,18 @@
 -- A bus access, the normal address translation: handbook 4.5.3.
 use Prim.Native.Nat.{ℕ, _+_, _*_, _/_, _%_}
 use mathlib.Core.Bool.{Bool, true, false, not, _&&_, cond}
-use mathlib.Core.List.{[], _∷_}
-use lib.Dec.{ltb}
 use Rattle.descriptors.specs.Status.{used, modified}
 use Rattle.descriptors.specs.Descriptor.{protected, physical-page, with-ssr}
 use Rattle.registers.specs.Unit.{NO, USA, WV, none, latch, report, with-rw}
 use Rattle.registers.specs.Shared.{entry, faulted, with-gsr}
 use Rattle.chip.specs.System.{unit, descriptor, with-descriptor, with-unit, with-shared, in-all}
 use Rattle.chip.specs.Search.{matching}
-use Rattle.chip.specs.Answer.{granted, checked, miscounted}
+use Rattle.chip.specs.Answer.{granted}
 use Rattle.chip.specs.declared.system.System.{System}
 use Rattle.chip.specs.declared.search.Found.{Found}
 use Rattle.chip.specs.declared.search.Found.the-variants.{At, Nowhere}
 use Rattle.chip.specs.declared.access.Cycle.{Cycle}
 use Rattle.chip.specs.declared.access.Cycle.the-variants.{Read, Write}
-use Rattle.chip.specs.declared.answer.Refusal.the-variants as refusal
 use Rattle.chip.specs.declared.answer.Answer.the-variants.{Mapped, Violation, Undefined}
 use Rattle.chip.specs.declared.answer.Outcome.{Outcome}
 
@@ -66,10 +63,3 @@ translate code cycle address s =
     let page = address / 256 in
     let number = entry (s .shared) code in
     translate-at (matching page number s) cycle page number (address % 256) s
-
-unfoldable pub access : (code : ℕ) → Cycle → (address : ℕ) → System → Outcome
-access code cycle address s =
-    checked
-    ((refusal.Count, miscounted (s .shared .board .count)) ∷ (refusal.FunctionCode, ltb 15 code)
-    ∷ (refusal.Address, ltb 0xFFFFFF address) ∷ [])
-    s (translate code cycle address s)

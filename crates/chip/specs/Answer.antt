@@ -1,7 +1,7 @@
 -- The answers, and document 01's number and values for each: "Numbers the host gets back".
 use Prim.Native.Nat.{ℕ}
 use mathlib.Core.Bool.{Bool, false, not, _||_, cond}
-use mathlib.Core.List.{List, [], _∷_}
+use mathlib.Core.List.{List, [], _∷_, map}
 use lib.Dec.{eqb, ltb}
 use Rattle.chip.specs.Search.{irq}
 use Rattle.chip.specs.declared.system.System.{System}
@@ -70,6 +70,14 @@ reading byte s = record { byte = byte; system = s }
 abbrev pub checked : List (Refusal × Bool) → System → Outcome → Outcome
 checked [] s o = o
 checked (c ∷ cs) s o = cond (c .1) (refused (c .0) s) (checked cs s o)
+
+-- a table of refusals by number, each with when it is given: the first that applies, or zero
+abbrev pub first-of : (rows : List (ℕ × Bool)) → ℕ
+first-of [] = 0
+first-of (row ∷ rows) = cond (row .1) (row .0) (first-of rows)
+
+abbrev pub numbered : List (Refusal × Bool) → List (ℕ × Bool)
+numbered = map (λ (c : Refusal × Bool). (number (c .0), c .1))
 
 -- 1: the count is 0 or above 6
 abbrev pub miscounted : (count : ℕ) → Bool

@@ -7,15 +7,15 @@ use lib.Dec.{eqb}
 use Rattle.descriptors.specs.Descriptor.{bytes}
 use Rattle.registers.specs.Shared.{board}
 use Rattle.chip.specs.Answer.{done, byte-read, mapped, undefined, values}
-use Rattle.chip.specs.Reset.{unselected, start}
-use Rattle.chip.specs.Access.{access}
-use Rattle.chip.specs.Register.{register}
+use Rattle.chip.specs.Reset.{unselected}
+use Rattle.chip.specs.Call.{performed}
 use Rattle.descriptors.specs.declared.descriptor.Descriptor.{Descriptor}
 use Rattle.chip.specs.declared.system.System.{System}
 use Rattle.chip.specs.declared.reset.Selected.{Selected}
 use Rattle.chip.specs.declared.reset.Selected.the-variants as selected
 use Rattle.chip.specs.declared.access.Cycle.the-variants as cycle
 use Rattle.chip.specs.declared.register.Operation.the-variants.{Read, Write}
+use Rattle.chip.specs.declared.call.Call.the-variants.{Start, Access, Register}
 
 -- A step: a call to unit 0, and what it must answer.
 pub data Step : Type 0 where
@@ -30,22 +30,22 @@ pub data Step : Type 0 where
 
 -- function code 1 stands for the number
 abbrev pub in-space : (number : ℕ) → System → System
-in-space number s = register 0 0x02 (Write number) s .system
+in-space number s = performed (Register 0 0x02 (Write number)) s .system
 
 -- the steps one after the other, each answered as it must be
 abbrev pub holds : List Step → System → Bool
 holds [] s = true
 holds (write address byte ∷ steps) s =
-    let o = register 0 address (Write byte) s in
+    let o = performed (Register 0 address (Write byte)) s in
     eqb (values (o .answer) .kind) done && holds steps (o .system)
 holds (reads address byte ∷ steps) s =
-    let o = register 0 address Read s in
+    let o = performed (Register 0 address Read) s in
     eqb (values (o .answer) .kind) byte-read && eqb (values (o .answer) .byte) byte && holds steps (o .system)
 holds (maps number address physical ∷ steps) s =
-    let o = access 1 cycle.Read address (in-space number s) in
+    let o = performed (Access 1 cycle.Read address) (in-space number s) in
     eqb (values (o .answer) .kind) mapped && eqb (values (o .answer) .address) physical && holds steps (o .system)
 holds (misses number address ∷ steps) s =
-    let o = access 1 cycle.Read address (in-space number s) in
+    let o = performed (Access 1 cycle.Read address) (in-space number s) in
     eqb (values (o .answer) .kind) undefined && holds steps (o .system)
 
 -- the accumulator bytes from AC i on are written
@@ -130,5 +130,5 @@ cases =
 abbrev pub all-hold : List Case → Bool
 all-hold [] = true
 all-hold (c ∷ cs) =
-    let o = start 1 (c .unit) (unselected (board 0)) in
+    let o = performed (Start 1 (c .unit)) (unselected (board 0)) in
     eqb (values (o .answer) .kind) done && holds (c .steps) (o .system) && all-hold cs

@@ -8,7 +8,7 @@ pub mod Prepare
 pub mod Load
 pub mod Translation
 pub mod Event
-pub mod Acknowledge
 pub mod Register
 pub mod Call
 pub mod Cases
+pub mod Clean

@@ -1,13 +1,12 @@
 -- The registers by their addresses: handbook 4.6.1, Table 4-3.
 use Prim.Native.Nat.{ℕ, _-_, _/_, _%_}
 use mathlib.Core.Bool.{cond}
-use mathlib.Core.List.{[], _∷_}
 use lib.Dec.{eqb, ltb}
 use Rattle.registers.specs.Unit.{NO, ac, lsr, write-ac, write-dp, write-lsr, with-l}
 use Rattle.registers.specs.Shared.{entry, gsr-of, gsr-byte, with-entry, with-gsr, with-ivr}
 use Rattle.chip.specs.System.{unit, with-shared, in-all}
 use Rattle.chip.specs.Search.{lip, idp}
-use Rattle.chip.specs.Answer.{granted, reading, checked, miscounted, absent}
+use Rattle.chip.specs.Answer.{granted, reading}
 use Rattle.chip.specs.Transfer.{transfer, write-status}
 use Rattle.chip.specs.Load.{load}
 use Rattle.chip.specs.Translation.{direct-translation}
@@ -17,7 +16,6 @@ use Rattle.chip.specs.declared.register.Register.{Register}
 use Rattle.chip.specs.declared.register.Register.the-variants.{Ast, Ac, Dp, Ivr, Gsr, Lsr, Ssr, Idp, Rdp, DirectTranslation, LoadDescriptor, Null}
 use Rattle.chip.specs.declared.register.Operation.{Operation}
 use Rattle.chip.specs.declared.register.Operation.the-variants.{Read, Write}
-use Rattle.chip.specs.declared.answer.Refusal.the-variants as refusal
 use Rattle.chip.specs.declared.answer.Answer.the-variants.{Done, Byte}
 use Rattle.chip.specs.declared.answer.Outcome.{Outcome}
 
@@ -76,14 +74,7 @@ write DirectTranslation m value s = s
 write LoadDescriptor m value s = s
 write Null m value s = s
 
+-- a register access in unit m, by byte
 unfoldable pub operate : Operation → Register → (m : ℕ) → System → Outcome
 operate Read r m s = let o = read r m s in granted (Byte (o .byte)) (o .system)
 operate (Write value) r m s = granted Done (write r m value s)
-
--- a register access in a unit, by byte
-unfoldable pub register : (unit address : ℕ) → Operation → System → Outcome
-register unit address operation s =
-    checked
-    ((refusal.Count, miscounted (s .shared .board .count)) ∷ (refusal.Unit, absent unit (s .shared .board .count))
-    ∷ (refusal.Register, ltb 0x3F address) ∷ [])
-    s (operate operation (register-at address) unit s)

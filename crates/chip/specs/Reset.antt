@@ -1,12 +1,11 @@
 -- Start and reset: handbook 4.5.1.
 use Prim.Native.Nat.{ℕ, _*_}
 use mathlib.Core.Bool.{Bool, false}
-use mathlib.Core.List.{[], _∷_}
 use lib.ListN.{replicate}
 use Rattle.descriptors.specs.Descriptor.{zeros}
 use Rattle.registers.specs.Unit.{NO, none, local, report}
 use Rattle.chip.specs.System.{with-descriptor, with-shared, in-all}
-use Rattle.chip.specs.Answer.{granted, checked, miscounted, absent}
+use Rattle.chip.specs.Answer.{absent}
 use Rattle.descriptors.specs.declared.descriptor.Descriptor.{Descriptor}
 use Rattle.registers.specs.declared.unit.Unit.{Unit}
 use Rattle.registers.specs.Shared.{board}
@@ -15,9 +14,6 @@ use Rattle.registers.specs.declared.shared.Shared.{Shared}
 use Rattle.chip.specs.declared.system.System.{System}
 use Rattle.chip.specs.declared.reset.Selected.{Selected}
 use Rattle.chip.specs.declared.reset.Selected.the-variants as selected
-use Rattle.chip.specs.declared.answer.Refusal.the-variants as refusal
-use Rattle.chip.specs.declared.answer.Answer.the-variants.{Done}
-use Rattle.chip.specs.declared.answer.Outcome.{Outcome}
 
 -- accumulator, marks, DP and LSR zero
 abbrev pub blank : Unit
@@ -52,13 +48,3 @@ fresh b (selected.Unit m) = with-descriptor (unselected b) (32 * m) identity
 abbrev pub unselectable : Selected → (count : ℕ) → Bool
 unselectable selected.Nobody count = false
 unselectable (selected.Unit m) count = absent m count
-
--- a start of `count` units
-unfoldable pub start : (count : ℕ) → Selected → System → Outcome
-start count unit s =
-    checked ((refusal.Count, miscounted count) ∷ (refusal.Unit, unselectable unit count) ∷ [])
-    s (granted Done (fresh (board count) unit))
-
--- a reset of the units that are there
-unfoldable pub reset : Selected → System → Outcome
-reset unit s = start (s .shared .board .count) unit s

@@ -1,6 +1,7 @@
 // Interrupt acknowledge (handbook 4.6.2.1).
 ghost use mathlib.Core.Path.{_≡_};
-ghost use Rattle.chip.specs.Acknowledge.{acknowledge};
+ghost use Rattle.chip.specs.Call.{performed};
+ghost use Rattle.chip.specs.declared.call.Call.the-variants.{Acknowledge};
 use crate::answer;
 use crate::answer::Answer;
 use crate::answer::Outcome;
@@ -10,7 +11,7 @@ use crate::system::System;
 impl System {
     // Refusals 1, 2 and 6.
     pub fn acknowledge(self, unit: u64) -> Outcome
-        ensures { λ r. ⌜ r ≡ acknowledge unit self ⌝ }
+        ensures { λ r. ⌜ r ≡ performed (Acknowledge unit) self ⌝ }
     {
         let count = self.shared.board.count;
         if answer::miscounted(count) {

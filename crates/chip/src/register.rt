@@ -1,7 +1,9 @@
 // The registers by their addresses (handbook 4.6.1, Table 4-3).
 ghost use mathlib.Core.Path.{_≡_};
 ghost use Prim.Native.Nat.{_<_};
-ghost use Rattle.chip.specs.Register.{register-at, read, write, write-gsr, operate, register};
+ghost use Rattle.chip.specs.Register.{register-at, read, write, write-gsr, operate};
+ghost use Rattle.chip.specs.Call.{performed};
+ghost use Rattle.chip.specs.declared.call.Call.the-variants as call;
 use crate::answer;
 use crate::answer::Answer;
 use crate::answer::Outcome;
@@ -135,7 +137,7 @@ impl System {
 
     // One register access by byte; refusals 1, 2 and 3.
     pub fn register(self, unit: u64, address: u64, operation: Operation) -> Outcome
-        ensures { λ r. ⌜ r ≡ register unit address operation self ⌝ }
+        ensures { λ r. ⌜ r ≡ performed (call.Register unit address operation) self ⌝ }
     {
         let count = self.shared.board.count;
         if answer::miscounted(count) {

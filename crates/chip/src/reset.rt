@@ -1,7 +1,9 @@
 // Start and reset (handbook 4.5.1).
 ghost use mathlib.Core.Path.{_≡_};
 ghost use Rattle.descriptors.specs.Descriptor.{zeros};
-ghost use Rattle.chip.specs.Reset.{blank, uninitialized, nothing, unselected, identity, start, reset};
+ghost use Rattle.chip.specs.Reset.{blank, uninitialized, nothing, unselected, identity};
+ghost use Rattle.chip.specs.Call.{performed};
+ghost use Rattle.chip.specs.declared.call.Call.the-variants.{Start, Reset};
 use crate::answer;
 use crate::answer::Answer;
 use crate::answer::Outcome;
@@ -122,7 +124,7 @@ impl System {
 
     // Refusals 1 and 2.
     pub fn start(self, count: u64, selected: Selected) -> Outcome
-        ensures { λ r. ⌜ r ≡ start count selected self ⌝ }
+        ensures { λ r. ⌜ r ≡ performed (Start count selected) self ⌝ }
     {
         let n = count as usize;
         if answer::miscounted(n) {
@@ -146,7 +148,7 @@ impl System {
 
     // Start for the count that is there.
     pub fn reset(self, selected: Selected) -> Outcome
-        ensures { λ r. ⌜ r ≡ reset selected self ⌝ }
+        ensures { λ r. ⌜ r ≡ performed (Reset selected) self ⌝ }
     {
         let count = self.shared.board.count;
         self.start(count as u64, selected)

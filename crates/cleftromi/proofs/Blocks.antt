@@ -1,29 +1,62 @@
--- What a call leaves in the block.
+-- What a call answers, and what it leaves in the block.
+--     long-answer, long-after     a block that is long enough: the outcome's answer as a number, and its system if it is granted
+--     short-answer       one that is too short: 7
 --     Holds t b          the block b is long enough, reads as t, and is t's one written form
 --     form-holds         the written form of a clean system does, whatever follows it
---     granted-holds      a granted call that leaves a clean system: the block holds it
---     granted-reads      so of any bytes: the block reads as the system that the call left
---     refused-stays      a refused one: the block is as it was
+--     refusal-is         the answer tells the table's refusal
+--     refused-alone      which is then the whole answer, and the block is as it was
+--     Granted c b        the block is long enough, and no check applies
+--     granted-told       so it is where the answer tells no refusal
+--     granted-holds      then, if the call leaves a clean system, the block holds it
+--     granted-reads      so it does on any bytes
 -- Assumes nothing.
 use Prim.Native.Nat.{ℕ, _<_, _≤_, _^_}
-use mathlib.Core.Path.{_≡_, ap}
-use mathlib.Core.Bool.{false}
+use mathlib.Core.Path.{_≡_, refl, sym, ap, _∙_}
+use mathlib.Core.Bool.{Bool, true, false, cond}
 use mathlib.Core.Logic.{_≢_}
-use mathlib.Core.List.{List, _++_}
+use mathlib.Core.List.{List, _∷_, _++_}
 use native.Mathlib.Omega.{arith}
+use lib.Dec.{eqb, lit<}
 use lib.ListN.{length, drop, length-append}
 use lib.Seq.{drop-at}
-use borrow.Author.Tests.{eq-eqb, ne-eqb, le-ltb}
-use Rattle.chip.specs.Answer.{values}
-use Rattle.chip.specs.Call.{performed}
+use borrow.Author.Tests.{eq-eqb, ne-eqb, eqb-true, le-ltb}
+use Rattle.chip.specs.Answer.{values, refused, first-of, numbered}
+use Rattle.chip.specs.Call.{checks, carried-out, performed}
+use Rattle.chip.specs.Clean.{Clean}
 use Rattle.chip.specs.declared.system.System.{System}
+use Rattle.chip.specs.declared.answer.Outcome.{Outcome}
 use Rattle.chip.specs.declared.call.Call.{Call}
+use Rattle.chip.proofs.Checked.{either, refusal-told, checks-law, carried-out-granted, performed-number, number-fits}
+use Rattle.chip.proofs.Steps.{bus, performed-clean}
 use Rattle.block.specs.Layout.{Bytes, size, short, form, read, written}
-use Rattle.block.specs.Clean.{Clean}
 use Rattle.block.proofs.Round.{length-form, system-back}
 use Rattle.block.proofs.Tidy.{read-clean}
-use Rattle.block.proofs.Kept.{bus, performed-clean}
-use Rattle.cleftromi.specs.Interface.{after}
+use Rattle.cleftromi.specs.Interface.{number-of, refusals, answer, after}
+use Rattle.cleftromi.specs.Fields.{refusal}
+use Rattle.cleftromi.proofs.Fields.{refusal-back}
+
+pub long-answer : (c : Call) (b : List ℕ) → short b ≡ false → let o = performed c (read b) in
+    answer c b ≡ number-of (values (o .answer)) (o .irq)
+unfolding answer refused number-of
+long-answer c b long =
+    rw long
+    (checks-law c (read b)
+    (λ n (o : Outcome). let p = carried-out c (read b) in
+    cond (eqb n 0) (number-of (values (p .answer)) (p .irq)) n ≡ number-of (values (o .answer)) (o .irq))
+    (λ r. rw (ne-eqb _ _ (refusal-told r .0)) (omega arith)) (λ n. refl))
+
+pub short-answer : (c : Call) (b : List ℕ) → short b ≡ true → answer c b ≡ 7
+unfolding answer
+short-answer c b q = rw q
+
+pub long-after : (c : Call) (b : List ℕ) → short b ≡ false → let o = performed c (read b) in
+    after c b ≡ cond (eqb (values (o .answer) .number) 0) (written b (o .system)) b
+unfolding after
+long-after c b long =
+    rw (long, performed-number c (read b))
+    (checks-law c (read b)
+    (λ n (o : Outcome). cond (eqb n 0) (written b (carried-out c (read b) .system)) b ≡ cond (eqb n 0) (written b (o .system)) b)
+    (λ r. rw (ne-eqb _ _ (refusal-told r .0)) refl) (λ n. refl))
 
 pub record Holds (t : System) (b : List ℕ) : Type 0 where
   pub long : short b ≡ false
@@ -42,17 +75,51 @@ form-holds t rest c =
       form = rw long (ap (λ (r : List ℕ). form t ++ r) (drop-at (form t) rest size l));
     }
 
-pub granted-holds : (c : Call) (b : List ℕ) → let t = performed c (read b) .system in
-    Clean t → short b ≡ false → values (performed c (read b) .answer) .number ≡ 0 → Holds t (after c b)
-unfolding after written
-granted-holds c b k long granted =
-    rw (long, eq-eqb _ _ granted) (form-holds (performed c (read b) .system) (drop size b) k)
+-- ---- whether a call is granted
 
-pub granted-reads : (c : Call) (b : List ℕ) → Bytes b → bus c < 2 ^ 8 → short b ≡ false
-    → values (performed c (read b) .answer) .number ≡ 0 → read (after c b) ≡ performed c (read b) .system
-granted-reads c b h v long granted =
-    granted-holds c b (performed-clean c (read b) (read-clean b h) v) long granted .reads
+fits : (c : Call) (b : List ℕ) → first-of (refusals c b) < 2 ^ 8
+fits c b = either (λ (n : ℕ). n < 2 ^ 8) (short b) (λ e. lit< tt) (λ e. rw (← performed-number c (read b)) (number-fits c (read b)))
 
-pub refused-stays : (c : Call) (b : List ℕ) → values (performed c (read b) .answer) .number ≢ 0 → short b ≡ false → after c b ≡ b
-unfolding after
-refused-stays c b refused long = rw (long, ne-eqb _ _ refused)
+-- the answer tells which refusal it is, or that there is none
+pub refusal-is : (c : Call) (b : List ℕ) → refusal (answer c b) ≡ first-of (refusals c b)
+unfolding answer
+refusal-is c b = go (eqb n 0) refl
+  where
+    n : ℕ
+    n = first-of (refusals c b)
+
+    o : Outcome
+    o = carried-out c (read b)
+
+    go : (t : Bool) → eqb n 0 ≡ t → refusal (cond t (number-of (values (o .answer)) (o .irq)) n) ≡ n
+    go true e =
+        let zero = carried-out-granted c (read b) in
+        refusal-back (values (o .answer)) (o .irq) (omega arith) ∙ zero ∙ sym (eqb-true n 0 e)
+    go false e = omega (arith, fits c b)
+
+first-alone : (c : Call) (b : List ℕ) → first-of (refusals c b) ≢ 0 → (answer c b ≡ first-of (refusals c b)) × (after c b ≡ b)
+unfolding answer after
+first-alone c b n = (rw (ne-eqb _ _ n) refl, rw (ne-eqb _ _ n) refl)
+
+pub refused-alone : (c : Call) (b : List ℕ) → refusal (answer c b) ≢ 0 → (answer c b ≡ refusal (answer c b)) × (after c b ≡ b)
+refused-alone c b n = rw (refusal-is c b) (first-alone c b (rw (refusal-is c b) at n))
+
+pub record Granted (c : Call) (b : List ℕ) : Type 0 where
+  pub long : short b ≡ false
+  pub none : first-of (numbered (checks c (read b))) ≡ 0
+
+pub granted-told : (c : Call) (b : List ℕ) → refusal (answer c b) ≡ 0 → Granted c b
+granted-told c b e = go (short b) refl (sym (refusal-is c b) ∙ e)
+  where
+    go : (t : Bool) → short b ≡ t → first-of ((7, t) ∷ numbered (checks c (read b))) ≡ 0 → Granted c b
+    go true q e = absurd (omega arith)
+    go false q e = record { long = q; none = e }
+
+pub granted-holds : (c : Call) (b : List ℕ) → Granted c b → let t = performed c (read b) .system in Clean t → Holds t (after c b)
+unfolding written
+granted-holds c b g k =
+    let granted = performed-number c (read b) ∙ g .none in
+    rw (long-after c b (g .long), g .long, eq-eqb _ _ granted) (form-holds (performed c (read b) .system) (drop size b) k)
+
+pub granted-reads : (c : Call) (b : List ℕ) → Granted c b → Bytes b → bus c < 2 ^ 8 → read (after c b) ≡ performed c (read b) .system
+granted-reads c b g h v = granted-holds c b g (performed-clean c (read b) (read-clean b h) v) .reads

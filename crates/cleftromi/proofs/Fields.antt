@@ -1,13 +1,13 @@
 -- The fields of an answer.
 --     fields           no field touches another: each is read back from its own bits, as the C header reads it
 --     refusal-back     the refusal, whatever the other values are
--- That the values of every call fit their fields is `performed-fit` in `block`. Assumes nothing.
+-- That the values of every call fit their fields is `performed-fit` in `chip`. Assumes nothing.
 use Prim.Native.Nat.{_^_, _<_}
 use mathlib.Core.Path.{_≡_}
 use mathlib.Core.Bool.{Bool}
 use native.Mathlib.Omega.{arith}
 use Rattle.chip.specs.declared.answer.Values.{Values}
-use Rattle.block.proofs.Fit.{Fit, small}
+use Rattle.chip.proofs.Fit.{Fit, small}
 use Rattle.cleftromi.specs.Interface.{number-of}
 use Rattle.cleftromi.specs.Fields.{refusal, Fields}
 

@@ -1,11 +1,11 @@
 -- What a call from C does to the lent block, and the number that it answers (docs/LAYOUTS.md).
 use Prim.Native.Nat.{ℕ, _+_, _*_, _%_, _^_}
 use mathlib.Core.Bool.{Bool, cond}
-use mathlib.Core.List.{List}
+use mathlib.Core.List.{List, _∷_}
 use lib.Dec.{eqb}
 use Rattle.registers.specs.Unit.{flag}
-use Rattle.chip.specs.Answer.{values}
-use Rattle.chip.specs.Call.{performed}
+use Rattle.chip.specs.Answer.{values, first-of, numbered}
+use Rattle.chip.specs.Call.{checks, carried-out}
 use Rattle.block.specs.Layout.{short, read, written}
 use Rattle.chip.specs.declared.access.Cycle.{Cycle}
 use Rattle.chip.specs.declared.access.Cycle.the-variants as cycle
@@ -14,7 +14,6 @@ use Rattle.chip.specs.declared.register.Operation.the-variants as operation
 use Rattle.chip.specs.declared.reset.Selected.{Selected}
 use Rattle.chip.specs.declared.reset.Selected.the-variants as selected
 use Rattle.chip.specs.declared.answer.Values.{Values}
-use Rattle.chip.specs.declared.answer.Outcome.{Outcome}
 use Rattle.chip.specs.declared.call.Call.{Call}
 
 -- The numbers that a host passes: a unit, or 255 for none; direction 0 reads, any other number writes
@@ -36,13 +35,16 @@ number-of v irq =
     v .number + v .kind % 16 * 2 ^ 8 + flag irq * 2 ^ 12 + flag (v .win) * 2 ^ 13 + v .unit % 8 * 2 ^ 16
     + v .descriptor % 32 * 2 ^ 19 + v .byte * 2 ^ 24 + v .address % 2 ^ 24 * 2 ^ 32
 
--- a refusal leaves the block as it was
-abbrev pub left : (block : List ℕ) → Outcome → List ℕ
-left b o = cond (eqb (values (o .answer) .number) 0) (written b (o .system)) b
+-- what a call checks, in this order, each with its number: 7, the lent block is too short; then its own checks
+abbrev pub refusals : Call → (block : List ℕ) → List (ℕ × Bool)
+refusals call b = (7, short b) ∷ numbered (checks call (read b))
 
--- what a call answers, and what it leaves in the block; 7: the lent block is too short
+-- the first that applies is the answer, and the block stays; where none does the call is carried out
 unfoldable pub answer : Call → (block : List ℕ) → ℕ
-answer call b = cond (short b) 7 (number-of (values (performed call (read b) .answer)) (performed call (read b) .irq))
+answer call b =
+    let refusal = first-of (refusals call b) in
+    let o = carried-out call (read b) in
+    cond (eqb refusal 0) (number-of (values (o .answer)) (o .irq)) refusal
 
 unfoldable pub after : Call → (block : List ℕ) → List ℕ
-after call b = cond (short b) b (left b (performed call (read b)))
+after call b = cond (eqb (first-of (refusals call b)) 0) (written b (carried-out call (read b) .system)) b

@@ -2,13 +2,11 @@
 use Prim.Native.Nat.{ℕ}
 use mathlib.Core.Path.{_≡_, refl, sym, ap, _∙_}
 use mathlib.Core.Logic.{_≢_}
-use mathlib.Core.Bool.{Bool, true, false, not, _&&_, _||_, cond, false≢true}
+use mathlib.Core.Bool.{Bool, true, false, not, cond}
 use mathlib.Core.List.{List}
 use native.Mathlib.Omega.{arith}
-use lib.Dec.{eqb, lit<}
-use Rattle.masks.specs.Fields.{bit}
-use Rattle.masks.proofs.Bits.{bit-field}
-use Rattle.descriptors.specs.Status.{E, IP, reserved, clean}
+use lib.Dec.{eqb}
+use Rattle.descriptors.proofs.Clean.{pending-enabled}
 use Rattle.chip.specs.System.{unit, descriptor}
 use Rattle.chip.specs.Access.{writes}
 use Rattle.chip.specs.Event.{leaves}
@@ -23,26 +21,13 @@ use Rattle.block.specs.Layout.{Bytes, short, read}
 use Rattle.block.proofs.Tidy.{read-clean}
 use Rattle.cleftromi.specs.Interface.{cycle-by}
 use Rattle.cleftromi.specs.Fields.{kind}
+use Rattle.cleftromi.proofs.Blocks.{short-answer}
+use Rattle.demands.specs.Histories as histories
 use Rattle.demands.specs.Histories.{Access}
 use Rattle.demands.specs.Demands.{As-stated, No-stale-neighbour}
-use Rattle.demands.proofs.Calls.{access-made}
+use Rattle.demands.proofs.Calls.{made}
 use Rattle.demands.proofs.Histories.{reached-good}
-use Rattle.demands.proofs.Refusals.{short-made}
 use Rattle.demands.proofs.Stated.{stated, loaded, translated}
-
--- 3.1.6: a clean status has IP only with E
-pending-enabled : (ssr : ℕ) → clean ssr ≡ ssr → bit ssr IP ≡ true → bit ssr E ≡ true
-unfolding clean
-pending-enabled ssr c p = go (bit ssr E) (sym (bit-field 8 kept IP (lit< tt)) ∙ ap (λ (x : ℕ). bit x IP) c ∙ p)
-  where
-    kept : ℕ → Bool
-    kept i = cond (reserved i || (eqb i IP && not (bit ssr E))) false (bit ssr i)
-
-    go : (b : Bool) → cond (reserved IP || (eqb IP IP && not b)) false (bit ssr IP) ≡ true → b ≡ true
-    go true e = refl
-    go false e = absurd (false≢true e)
-
--- ---- what an event leaves
 
 -- an access that faults, through C
 faulted : {code direction address r : ℕ} {b e : List ℕ} → Bytes b → Access code direction address b r e → kind r ≢ 0
@@ -54,8 +39,8 @@ faulted {code} {direction} {address} {r} {b} {e} h k n = go (short b) refl
     c = call.Access code (cycle-by direction) address
 
     go : (t : Bool) → short b ≡ t → As-stated (performed c (read b)) r e × Faults (cycle-by direction) (read b) (performed c (read b))
-    go true q = absurd (n (ap kind (access-made k .answered ∙ short-made c b q .0)))
-    go false q = (stated c h q (access-made k), access-leaves code (cycle-by direction) address (read b) (read-clean b h .places .0))
+    go true q = absurd (n (ap kind (made (histories.access k) .answered ∙ short-answer c b q)))
+    go false q = (stated c h q (made (histories.access k)), access-leaves code (cycle-by direction) address (read b) (read-clean b h .places .0))
 
 reads-by : (direction : ℕ) → not (writes (cycle-by direction)) ≡ eqb direction 0
 reads-by direction = go (eqb direction 0)

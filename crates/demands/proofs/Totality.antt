@@ -36,13 +36,10 @@ as-long = length-replicate {A = ℕ} 4096 0
 
 begun : Start 1 0 zeros (answer (call.Start 1 (selected.Unit 0)) zeros) (after (call.Start 1 (selected.Unit 0)) zeros)
 begun = record {
-  lifetime = ([], tt);
-  state = record { ptr = (0, 0); name = 0; now = zeros };
+  lifetimes = ([], tt);
+  places = λ j. ((0, 0), 0);
   within = ((rw as-long (lit< tt), rw as-long (lit< tt)), ((refl, lit< tt), ((refl, lit< tt), tt)));
-  last = (_, (tt, (tt, tt)));
   kept = (refl, refl);
-  found = refl;
-  left = refl;
 }
 
 pub not-empty : Not-empty
@@ -52,5 +49,5 @@ not-empty = record {
   access = λ κs a. (_, (_, (tt, (tt, (tt, tt)))), (refl, refl));
   register = λ κs a. (_, (_, (tt, (tt, (tt, (tt, tt))))), (refl, refl));
   acknowledge = λ κs a. (_, (_, (tt, tt)), (refl, refl));
-  reached = (_, histories.started begun (demand-1 .start begun .exactly ∙ rw as-long));
+  reached = (_, histories.started begun (demand-1 .refused (histories.start begun) .exactly ∙ rw as-long));
 }

@@ -2,45 +2,35 @@
 use Prim.Native.Nat.{ℕ, _*_, _/_, _^_, _<_}
 use mathlib.Core.Path.{_≡_}
 use mathlib.Core.Logic.{_≢_, _↔_}
-use mathlib.Core.Bool.{Bool, true, false, not, _&&_, cond}
-use mathlib.Core.List.{List, [], _∷_}
-use lib.Dec.{eqb, ltb}
+use mathlib.Core.Bool.{Bool, true, false}
+use mathlib.Core.List.{List}
+use lib.Dec.{eqb}
 use Rattle.masks.specs.Fields.{bit}
 use Rattle.descriptors.specs.Status.{E}
 use Rattle.descriptors.specs.Descriptor.{enabled, pending, matches}
 use Rattle.registers.specs.Unit.{byte, ac, word, segment}
 use Rattle.chip.specs.System.{present, unit, descriptor, pointed}
-use Rattle.chip.specs.Search.{irq, matching}
-use Rattle.chip.specs.Answer.{values, violating, undefined, miscounted, absent}
-use Rattle.chip.specs.Reset.{start, reset}
-use Rattle.chip.specs.Access.{access}
-use Rattle.chip.specs.Register.{register}
-use Rattle.chip.specs.Acknowledge.{acknowledge}
+use Rattle.chip.specs.Search.{matching}
+use Rattle.chip.specs.Answer.{values, violating, undefined, first-of}
+use Rattle.chip.specs.Call.{performed}
+use Rattle.chip.specs.Clean.{Clean}
 use Rattle.chip.specs.Load.{Collision}
 use Rattle.chip.specs.Event.{Event, status, leaves, Lowest}
 use Rattle.chip.specs.Event as event
 use Rattle.chip.specs.declared.search.Found.{Found}
 use Rattle.chip.specs.declared.answer.Outcome.{Outcome}
+use Rattle.chip.specs.declared.call.Call.{Call}
 use Rattle.block.specs.Layout.{Bytes, short, read, written}
-use Rattle.block.specs.Clean.{Clean}
-use Rattle.cleftromi.specs.Interface.{none, selected-by, cycle-by, operation-by}
+use Rattle.cleftromi.specs.Interface.{refusals}
 use Rattle.cleftromi.specs.Fields.{refusal, kind, Fields}
 use Rattle.cleftromi.specs.Fields as field
-use Rattle.demands.specs.Histories.{Start, Reset, Access, Register, Acknowledge, Step, Reached}
+use Rattle.demands.specs.Histories.{Step, Access, Register, Asks, Reached}
 
--- what a block holds
-abbrev pub count : (block : List ℕ) → ℕ
-count b = read b .shared .board .count
-
+-- how many places a block has
 abbrev pub places : (block : List ℕ) → ℕ
 places b = 32 * present (read b)
 
 -- ---- Demand 1
-
--- rows of document 01's table, each a number and when it is given: the first that applies, or zero
-abbrev pub first-of : (rows : List (ℕ × Bool)) → ℕ
-first-of [] = 0
-first-of (row ∷ rows) = cond (row .1) (row .0) (first-of rows)
 
 -- a refusal is given exactly when the table says; it is its number and nothing else, and leaves every byte
 pub record Refused-by (rows : List (ℕ × Bool)) (before : List ℕ) (answer : ℕ) (after : List ℕ) : Type 0 where
@@ -51,16 +41,7 @@ pub record Refused-by (rows : List (ℕ × Bool)) (before : List ℕ) (answer : 
 -- "A bad unit, register, function code or address gets a numbered refusal, and state and every lent byte are then as before
 -- the call."
 pub record Demand-1 : Type 0 where
-  pub start : {units selected answer : ℕ} {b after : List ℕ} → Start units selected b answer after
-      → Refused-by ((7, short b) ∷ (1, miscounted units) ∷ (2, not (eqb selected none) && absent selected units) ∷ []) b answer after
-  pub reset : {selected answer : ℕ} {b after : List ℕ} → Reset selected b answer after
-      → Refused-by ((7, short b) ∷ (1, miscounted (count b)) ∷ (2, not (eqb selected none) && absent selected (count b)) ∷ []) b answer after
-  pub access : {function-code direction address answer : ℕ} {b after : List ℕ} → Access function-code direction address b answer after
-      → Refused-by ((7, short b) ∷ (1, miscounted (count b)) ∷ (4, ltb 15 function-code) ∷ (5, ltb 0xFFFFFF address) ∷ []) b answer after
-  pub register : {unit address direction value answer : ℕ} {b after : List ℕ} → Register unit address direction value b answer after
-      → Refused-by ((7, short b) ∷ (1, miscounted (count b)) ∷ (2, absent unit (count b)) ∷ (3, ltb 0x3F address) ∷ []) b answer after
-  pub acknowledge : {unit answer : ℕ} {b after : List ℕ} → Acknowledge unit b answer after
-      → Refused-by ((7, short b) ∷ (1, miscounted (count b)) ∷ (2, absent unit (count b)) ∷ (6, not (irq (read b))) ∷ []) b answer after
+  pub refused : {c : Call} {answer : ℕ} {b after : List ℕ} → Asks c b answer after → Refused-by (refusals c b) b answer after
 
 -- ---- Demand 2
 
@@ -72,18 +53,8 @@ pub record As-stated (o : Outcome) (answer : ℕ) (after : List ℕ) : Type 0 wh
 -- "Every bus access, register access, acknowledge and reset gives the answer, and leaves the registers, that the handbook and 01
 -- state, for one to six units": on any bytes and any numbers; a block that is too short is demand 1's
 pub record Demand-2 : Type 0 where
-  pub start : {units selected answer : ℕ} {b after : List ℕ} → Bytes b → short b ≡ false → Start units selected b answer after
-      → As-stated (start units (selected-by selected) (read b)) answer after
-  pub reset : {selected answer : ℕ} {b after : List ℕ} → Bytes b → short b ≡ false → Reset selected b answer after
-      → As-stated (reset (selected-by selected) (read b)) answer after
-  pub access : {function-code direction address answer : ℕ} {b after : List ℕ} → Bytes b → short b ≡ false
-      → Access function-code direction address b answer after
-      → As-stated (access function-code (cycle-by direction) address (read b)) answer after
-  pub register : {unit address direction value answer : ℕ} {b after : List ℕ} → Bytes b → short b ≡ false
-      → Register unit address direction value b answer after
-      → As-stated (register unit address (operation-by direction value) (read b)) answer after
-  pub acknowledge : {unit answer : ℕ} {b after : List ℕ} → Bytes b → short b ≡ false → Acknowledge unit b answer after
-      → As-stated (acknowledge unit (read b)) answer after
+  pub stated : {c : Call} {answer : ℕ} {b after : List ℕ} → Bytes b → short b ≡ false → Asks c b answer after
+      → As-stated (performed c (read b)) answer after
 
 -- ---- Demand 3
 

@@ -1,48 +1,65 @@
--- The blocks that can be reached: from a granted start or reset, by any calls, as long as nothing else writes the state.
+-- The calls from C, and the blocks that can be reached by them: from a granted start or reset, by any calls, as long as nothing else
+-- writes the state.
 use Prim.Native.Nat.{ℕ}
 use mathlib.Core.Path.{_≡_}
-use mathlib.Core.List.{List}
+use mathlib.Core.List.{List, [], _∷_}
 use lib.ListN.{take}
+use mir.Syntax.{w8, w64}
+use Rattle.chip.specs.declared.call.Call.{Call}
+use Rattle.chip.specs.declared.call.Call.the-variants as call
 use Rattle.block.specs.Layout.{size}
+use Rattle.cleftromi.specs.Interface.{selected-by, cycle-by, operation-by}
 use Rattle.cleftromi.specs.Fields.{refusal}
-use Rattle.demands.specs.Promises.{Called}
+use Rattle.demands.specs.Promises.{Parameter, lent, number, Called}
 use Rattle.cleftromi.proofs.cleftromi_start as cleftromi-start
 use Rattle.cleftromi.proofs.cleftromi_reset as cleftromi-reset
 use Rattle.cleftromi.proofs.cleftromi_access as cleftromi-access
 use Rattle.cleftromi.proofs.cleftromi_register as cleftromi-register
 use Rattle.cleftromi.proofs.cleftromi_acknowledge as cleftromi-acknowledge
 
--- a call, by the bytes that it finds, its answer, and the bytes that it leaves
+-- a call, by the bytes that it finds in the block, its answer, and the bytes that it leaves there. A function whose promise is not
+-- over its arguments (one that is lent a record) has a definition over plain values for it, and that is its step
 abbrev pub Step : Type 1
 Step = (before : List ℕ) (answer : ℕ) (after : List ℕ) → Type 0
 
+abbrev state : Parameter 1
+state = lent 0 tt
+
 -- each of the five, called with these numbers
 abbrev pub Start : (units selected : ℕ) → Step
-Start units selected = Called cleftromi-start.Kinds.ps cleftromi-start.Reads.Post (λ κs. (units, (selected, tt)))
+Start units selected b answer after =
+    Called (state ∷ number w64 ∷ number w64 ∷ []) cleftromi-start.Reads.Post (b, (units, (selected, tt))) answer (after, tt)
 
 abbrev pub Reset : (selected : ℕ) → Step
-Reset selected = Called cleftromi-reset.Kinds.ps cleftromi-reset.Reads.Post (λ κs. (selected, tt))
+Reset selected b answer after = Called (state ∷ number w64 ∷ []) cleftromi-reset.Reads.Post (b, (selected, tt)) answer (after, tt)
 
 abbrev pub Access : (function-code direction address : ℕ) → Step
-Access function-code direction address = Called cleftromi-access.Kinds.ps cleftromi-access.Reads.Post (λ κs. (function-code, (direction, (address, tt))))
+Access function-code direction address b answer after =
+    Called (state ∷ number w64 ∷ number w64 ∷ number w64 ∷ []) cleftromi-access.Reads.Post
+    (b, (function-code, (direction, (address, tt)))) answer (after, tt)
 
 abbrev pub Register : (unit address direction value : ℕ) → Step
-Register unit address direction value = Called cleftromi-register.Kinds.ps cleftromi-register.Reads.Post (λ κs. (unit, (address, (direction, (value, tt)))))
+Register unit address direction value b answer after =
+    Called (state ∷ number w64 ∷ number w64 ∷ number w64 ∷ number w8 ∷ []) cleftromi-register.Reads.Post
+    (b, (unit, (address, (direction, (value, tt))))) answer (after, tt)
 
 abbrev pub Acknowledge : (unit : ℕ) → Step
-Acknowledge unit = Called cleftromi-acknowledge.Kinds.ps cleftromi-acknowledge.Reads.Post (λ κs. (unit, tt))
+Acknowledge unit b answer after = Called (state ∷ number w64 ∷ []) cleftromi-acknowledge.Reads.Post (b, (unit, tt)) answer (after, tt)
 
--- a call of any of them, with any numbers
-pub data Call (before : List ℕ) (answer : ℕ) (after : List ℕ) : Type 0 where
-  start : {units selected : ℕ} → Start units selected before answer after → Call before answer after
-  reset : {selected : ℕ} → Reset selected before answer after → Call before answer after
-  access : {function-code direction address : ℕ} → Access function-code direction address before answer after → Call before answer after
-  register : {unit address direction value : ℕ} → Register unit address direction value before answer after → Call before answer after
-  acknowledge : {unit : ℕ} → Acknowledge unit before answer after → Call before answer after
+-- a call of any of them, with any numbers, and what it asks for
+pub data Asks : Call → (before : List ℕ) (answer : ℕ) (after : List ℕ) → Type 0 where
+  start : {units selected answer : ℕ} {b after : List ℕ} → Start units selected b answer after
+      → Asks (call.Start units (selected-by selected)) b answer after
+  reset : {selected answer : ℕ} {b after : List ℕ} → Reset selected b answer after → Asks (call.Reset (selected-by selected)) b answer after
+  access : {function-code direction address answer : ℕ} {b after : List ℕ} → Access function-code direction address b answer after
+      → Asks (call.Access function-code (cycle-by direction) address) b answer after
+  register : {unit address direction value answer : ℕ} {b after : List ℕ} → Register unit address direction value b answer after
+      → Asks (call.Register unit address (operation-by direction value)) b answer after
+  acknowledge : {unit answer : ℕ} {b after : List ℕ} → Acknowledge unit b answer after → Asks (call.Acknowledge unit) b answer after
 
 pub data Reached : List ℕ → Type 0 where
   started : {units selected answer : ℕ} {before after : List ℕ} → Start units selected before answer after → refusal answer ≡ 0 → Reached after
   was-reset : {selected answer : ℕ} {before after : List ℕ} → Reset selected before answer after → refusal answer ≡ 0 → Reached after
-  called : {answer : ℕ} {before after : List ℕ} → Reached before → Call before answer after → Reached after
+  called : {c : Call} {answer : ℕ} {before after : List ℕ} → Reached before → Asks c before answer after → Reached after
   -- the state is the first 4,096 bytes: how many are lent, and what is past them, is the host's
   lent-anew : {before after : List ℕ} → Reached before → take size after ≡ take size before → Reached after

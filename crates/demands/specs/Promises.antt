@@ -2,14 +2,14 @@
 use Prim.Native.Nat.{ℕ}
 use mathlib.Core.Path.{_≡_}
 use mathlib.Core.List.{List, [], _∷_}
-use contract.Lifetimes.{Lfts}
-use denote.Ref.{RefT}
+use contract.Lifetimes.{Lfts, Within}
 use denote.Triple.Clauses.{Lasts, atExit}
 use borrow.Fn.Kind.{PK, RK}
-use borrow.Fn.Kinds.{Out, Dens, GoodsP, resT, endedOf, rNum}
+use borrow.Fn.Kinds.{Out, Dens, GoodsP, resT, endedOf, pNum, rNum}
 use borrow.Kind.MutSlice.{pMutS}
+use borrow.Kind.ShrSlice.{pShrS}
 use borrow.Table.Referent.{rtF, fInt}
-use mir.Syntax.{w8, w64}
+use mir.Syntax.{Width, w8, w64}
 
 -- at most one outcome meets a promise: two results, and two last values of what was lent, that both do are equal
 abbrev pub At-most-one : {n : ℕ} (ps : List (PK n)) (r : RK n) → Out n ps r → Type 0
@@ -28,25 +28,56 @@ At-least-one {n} ps r Promise =
 abbrev pub Returned : (ps : List (PK 0)) (r : RK 0) → Out 0 ps r → (a : Dens tt ps) → resT r tt .Denot → Type 0
 Returned ps r Promise a x = (v : Lasts (endedOf 0 ps r) tt a) × Promise tt a x (atExit (endedOf 0 ps r) tt a v)
 
--- the functions for C: the block that is lent, `&mut [u8]`; the other parameters; the answer, `u64`
-abbrev lent : PK 1
-lent = pMutS (rtF (fInt w8)) 0 tt
+-- A parameter of a function for C: lent bytes that it may write, `&mut [u8]`; lent bytes that it may only read, `&[u8]`; or a
+-- number. Lent bytes come with a lifetime, by its place in the signature
+pub data Parameter (n : ℕ) : Type 0 where
+  lent : (j : ℕ) → Within n j → Parameter n
+  shown : (j : ℕ) → Within n j → Parameter n
+  number : Width → Parameter n
 
-abbrev others : List (PK 1) → List (PK 1)
-others [] = []
-others (p ∷ ps) = ps
+module _ {n : ℕ} where
+  abbrev pub kind : Parameter n → PK n
+  kind (lent j ok) = pMutS (rtF (fInt w8)) j ok
+  kind (shown j ok) = pShrS (rtF (fInt w8)) j ok
+  kind (number w) = pNum w
 
-abbrev number : RK 1
-number = rNum w64
+  abbrev pub kinds : List (Parameter n) → List (PK n)
+  kinds [] = []
+  kinds (p ∷ ps) = kind p ∷ kinds ps
 
--- a call of such a function, with these numbers, each within its type: it finds the bytes `before`, answers, and
--- leaves the bytes `after`, as it promises
-pub record Called (ps : List (PK 1)) (Promise : Out 1 (lent ∷ others ps) number) (numbers : (κs : Lfts 1) → Dens κs (others ps))
-    (before : List ℕ) (answer : ℕ) (after : List ℕ) : Type 0 where
-  pub lifetime : Lfts 1
-  pub state : RefT (List ℕ)
-  pub within : GoodsP lifetime (lent ∷ others ps) (state, numbers lifetime)
-  pub last : Lasts (endedOf 1 (lent ∷ others ps) number) lifetime (state, numbers lifetime)
-  pub kept : Promise lifetime (state, numbers lifetime) answer (atExit (endedOf 1 (lent ∷ others ps) number) lifetime (state, numbers lifetime) last)
-  pub found : state .now ≡ before
-  pub left : last .0 ≡ after
+  -- what a call is given: the bytes as it finds them, and the numbers; and what it leaves: the bytes that it may write
+  abbrev pub Given : List (Parameter n) → Type 0
+  Given [] = Unit
+  Given (lent j ok ∷ ps) = List ℕ × Given ps
+  Given (shown j ok ∷ ps) = List ℕ × Given ps
+  Given (number w ∷ ps) = ℕ × Given ps
+
+  abbrev pub Left : List (Parameter n) → Type 0
+  Left [] = Unit
+  Left (lent j ok ∷ ps) = List ℕ × Left ps
+  Left (shown j ok ∷ ps) = Left ps
+  Left (number w ∷ ps) = Left ps
+
+  -- the arguments, where the bytes stand at some places of memory; and their last values
+  abbrev pub arguments : (κs : Lfts n) (places : ℕ → (ℕ × ℕ) × ℕ) (ps : List (Parameter n)) → Given ps → Dens κs (kinds ps)
+  arguments κs places [] given = tt
+  arguments κs places (lent j ok ∷ ps) given =
+      (record { ptr = places j .0; name = places j .1; now = given .0 }, arguments κs places ps (given .1))
+  arguments κs places (shown j ok ∷ ps) given =
+      (record { ptr = places j .0; name = places j .1; now = given .0 }, arguments κs places ps (given .1))
+  arguments κs places (number w ∷ ps) given = (given .0, arguments κs places ps (given .1))
+
+  abbrev pub lasts : (κs : Lfts n) (places : ℕ → (ℕ × ℕ) × ℕ) (ps : List (Parameter n)) (given : Given ps) → Left ps
+      → Lasts (endedOf n (kinds ps) (rNum w64)) κs (arguments κs places ps given)
+  lasts κs places [] given left = tt
+  lasts κs places (lent j ok ∷ ps) given left = (left .0, lasts κs places ps (given .1) (left .1))
+  lasts κs places (shown j ok ∷ ps) given left = (tt, lasts κs places ps (given .1) left)
+  lasts κs places (number w ∷ ps) given left = (tt, lasts κs places ps (given .1) left)
+
+  -- a call of such a function, each argument within its type: it answers and leaves what it promises
+  pub record Called (ps : List (Parameter n)) (Promise : Out n (kinds ps) (rNum w64)) (given : Given ps) (answer : ℕ) (left : Left ps) : Type 0 where
+    pub lifetimes : Lfts n
+    pub places : ℕ → (ℕ × ℕ) × ℕ
+    pub within : GoodsP lifetimes (kinds ps) (arguments lifetimes places ps given)
+    pub kept : Promise lifetimes (arguments lifetimes places ps given) answer
+        (atExit (endedOf n (kinds ps) (rNum w64)) lifetimes (arguments lifetimes places ps given) (lasts lifetimes places ps given left))

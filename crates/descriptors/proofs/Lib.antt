@@ -1,3 +1,4 @@
 pub mod Row
 pub mod Clash
 pub mod Enable
+pub mod Clean

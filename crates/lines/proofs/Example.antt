@@ -6,10 +6,9 @@ use Rattle.descriptors.specs.Descriptor.{matches}
 use Rattle.chip.specs.System.{with-units, with-shared, with-descriptor}
 use Rattle.chip.specs.Search.{first}
 use Rattle.chip.specs.Answer.{refused, granted}
-use Rattle.chip.specs.Reset.{unselected, fresh, start}
-use Rattle.chip.specs.Access.{match-at, translate-at, translate, access}
-use Rattle.chip.specs.Register.{register-at, read, write, operate, register}
-use Rattle.chip.specs.Acknowledge.{acknowledge}
+use Rattle.chip.specs.Reset.{unselected, fresh}
+use Rattle.chip.specs.Access.{match-at, translate-at, translate}
+use Rattle.chip.specs.Register.{register-at, read, write, operate}
 use Rattle.chip.specs.Call.{performed}
 use Rattle.lines.specs.Line.{fits, meaning}
 use Rattle.lines.specs.Text.{printed}
@@ -18,6 +17,6 @@ use Rattle.lines.specs.Example.{example-input, example-output}
 
 pub example-holds : transcript example-input ≡ example-output
 unfolding bit field every alike agree gate raise used matches with-units with-shared with-descriptor
-    first refused granted unselected fresh start match-at translate-at translate access register-at
-    read write operate register acknowledge performed fits meaning printed
+    first refused granted unselected fresh match-at translate-at translate register-at
+    read write operate performed fits meaning printed
 example-holds = refl

@@ -1,3 +1,4 @@
 pub mod Unit
 pub mod Change
 pub mod Shared
+pub mod Clean

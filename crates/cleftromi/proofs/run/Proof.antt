@@ -3,6 +3,7 @@ use borrow.Author.Needs.{needs}
 use borrow.Author.Tests.{lt-ltb, le-ltb, eq-eqb, ne-eqb}
 use mathlib.Core.Path.{refl}
 use Rattle.cleftromi.specs.Interface.{answer, after}
+use Rattle.cleftromi.proofs.Blocks.{long-answer, long-after}
 use Rattle.masks.proofs.Free.{free}
 use Rattle.cleftromi.proofs.run.Statement.{statement}
 use Rattle.cleftromi.proofs.run.Tie as tie
@@ -12,11 +13,11 @@ unfolding answer after
 returns c = rw (lt-ltb _ _ (c .if1 .taken)) (refl, refl)
 
 returns-2 : tie.Need-returns-2
-unfolding answer after
 returns-2 c =
     let called = c .before .before in
     rw (
-      le-ltb _ _ (called .before .before .before .before .before .if1 .left),
+      long-answer _ _ (le-ltb _ _ (called .before .before .before .before .before .if1 .left)),
+      long-after _ _ (le-ltb _ _ (called .before .before .before .before .before .if1 .left)),
       ← called .before .before .before .read .ensures,
       ← called .before .before .perform .ensures,
       ← called .before .values .ensures,
@@ -25,11 +26,11 @@ returns-2 c =
     (called .number-of .ensures, refl)
 
 returns-3 : tie.Need-returns-3
-unfolding answer after
 returns-3 c =
     let called = c .before .before .before .before .before .before in
     rw (
-      le-ltb _ _ (called .before .before .before .before .before .if1 .left),
+      long-answer _ _ (le-ltb _ _ (called .before .before .before .before .before .if1 .left)),
+      long-after _ _ (le-ltb _ _ (called .before .before .before .before .before .if1 .left)),
       ← called .before .before .before .read .ensures,
       ← called .before .before .perform .ensures,
       ← called .before .values .ensures,

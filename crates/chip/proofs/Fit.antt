@@ -7,38 +7,38 @@ use lib.Dec.{lit<, lit≤}
 use Rattle.masks.specs.Fields.{bit}
 use Rattle.masks.proofs.Laws.{gate-fits}
 use Rattle.descriptors.specs.Descriptor.{pending, protected, disable}
+use Rattle.descriptors.proofs.Clean.{status-fits}
 use Rattle.descriptors.specs.declared.descriptor.Descriptor.{Descriptor}
 use Rattle.registers.specs.Unit.{rdp-of, flag, consistent, for-translation, for-load, lsr}
 use Rattle.registers.specs.Shared.{gsr-byte}
 use Rattle.registers.specs.declared.unit.Unit.{Unit}
 use Rattle.registers.specs.declared.shared.Gsr.{Gsr}
 use Rattle.chip.specs.System.{present, unit, descriptor, pointed, with-descriptor}
 use Rattle.chip.specs.Search.{number-of, in-unit, lip}
 use Rattle.chip.specs.Answer.{number, values, refused, granted, reading}
 use Rattle.chip.specs.Access.{writes, match-at, translate-at, translate}
 use Rattle.chip.specs.Transfer.{transfer}
 use Rattle.chip.specs.Load.{collision, load-at, load}
 use Rattle.chip.specs.Translation.{result-at, direct-translation}
 use Rattle.chip.specs.Register.{register-at, read, operate}
-use Rattle.chip.specs.Call.{performed}
+use Rattle.chip.specs.Clean.{Clean}
+use Rattle.chip.specs.Call.{checks, carried-out, performed}
 use Rattle.chip.specs.declared.system.System.{System}
 use Rattle.chip.specs.declared.call.Call.{Call}
 use Rattle.chip.specs.declared.call.Call.the-variants as call
 use Rattle.chip.specs.declared.access.Cycle.{Cycle}
 use Rattle.chip.specs.declared.search.Found.{Found}
 use Rattle.chip.specs.declared.search.Found.the-variants.{At, Nowhere}
 use Rattle.chip.specs.declared.register.Register.{Register}
 use Rattle.chip.specs.declared.register.Register.the-variants as registers
 use Rattle.chip.specs.declared.register.Operation.the-variants as operation
 use Rattle.chip.specs.declared.answer.Refusal.{Refusal}
 use Rattle.chip.specs.declared.answer.Answer.the-variants.{Done, Byte}
 use Rattle.chip.specs.declared.answer.Outcome.{Outcome}
 use Rattle.chip.specs.declared.answer.Values.{Values}
-use Rattle.chip.proofs.Checked.{refusal-told, either, none-of, checks, unrefused, outcome-law}
+use Rattle.chip.proofs.Checked.{refusal-told, either, none-of, outcome-law}
 use Rattle.chip.proofs.Counts.{counted-present}
 use Rattle.chip.proofs.Once.{matching-found}
-use Rattle.block.specs.Clean.{Clean}
-use Rattle.block.proofs.Kept.{status-fits}
 
 pub record Fit (v : Values) : Type 0 where
   pub number : v .number < 2 ^ 8
@@ -126,7 +126,7 @@ done-fits = record { number = lit< tt; kind = lit< tt; unit = lit< tt; descripto
 
 pub performed-fit : (c : Call) (s : System) → Clean s → Fit (values (performed c s .answer))
 unfolding refused granted translate operate
-performed-fit c s k = outcome-law Fits c s refusals (go c)
+performed-fit c s k = outcome-law c s Fits refusals (go c)
   where
     refusals : (r : Refusal) → Fits (refused r s)
     refusals r = record {
@@ -138,7 +138,7 @@ performed-fit c s k = outcome-law Fits c s refusals (go c)
       address = lit< tt;
     }
 
-    go : (c : Call) → none-of (checks c s) → Fits (unrefused c s)
+    go : (c : Call) → none-of (checks c s) → Fits (carried-out c s)
     go (call.Start count selected) n = done-fits
     go (call.Reset selected) n = done-fits
     go (call.Access code cycle address) n =

@@ -1,0 +1,70 @@
+-- What may happen to one unit's own registers, each with its bounds: an event is a chain of these. RW is left out, as it is only
+-- ever set in all units alike, and a byte that is marked as global: that is written in all of them.
+--     Event u v       u becomes v
+--     event-clean     in clean form it stays
+--     event-fewer     no byte is marked that was not, and what is marked stays
+--     event-rw        RW stays
+-- Assumes nothing.
+use Prim.Native.Nat.{ℕ, _/_, _%_, _^_, _<_}
+use mathlib.Core.Path.{_≡_, refl}
+use mathlib.Core.Bool.{true, false≢true}
+use native.Mathlib.Omega.{arith}
+use lib.Dec.{lit<}
+use lib.ListN.{List·getD-map}
+use Rattle.descriptors.specs.Descriptor.{bytes}
+use Rattle.descriptors.specs.Clean.{Clean-descriptor}
+use Rattle.descriptors.specs.declared.descriptor.Descriptor.{Descriptor}
+use Rattle.registers.specs.Unit.{NO, none, rdp-of, local, byte, with-byte, with-dp, with-l, report, latch, take}
+use Rattle.registers.specs.Clean.{Clean-unit}
+use Rattle.registers.specs.declared.unit.Unit.{Unit}
+use Rattle.registers.proofs.Numbers.{stored}
+use Rattle.registers.proofs.Clean.{none-clean, byte-clean, take-clean}
+
+pub data Event (u : Unit) : Unit → Type 0 where
+  same : Event u u
+  coded : {v : Unit} (l : ℕ) → l < 2 ^ 4 → Event u v → Event u (with-l v l)
+  told : {v : Unit} (l rdp : ℕ) → l < 2 ^ 4 → rdp-of rdp ≡ rdp → Event u v → Event u (report l rdp v)
+  aimed : {v : Unit} (dp : ℕ) → dp < 2 ^ 5 → Event u v → Event u (with-dp v dp)
+  filled : {v : Unit} (i value : ℕ) → value < 2 ^ 8 → Event u v → Event u (with-byte v i (local value))
+  taken : {v : Unit} (d : Descriptor) → Clean-descriptor d → Event u v → Event u (take d v)
+
+-- 3.2.4: no part in the event
+pub untold : {u v : Unit} → Event u v → Event u (report NO none v)
+untold = told NO none (lit< tt) none-clean
+
+-- a page in two bytes, as a latch and a direct translation leave it
+pub paged : {u v : Unit} (i j page : ℕ) → page < 2 ^ 16 → Event u v
+    → Event u (with-byte (with-byte v i (local (page / 256))) j (local (page % 256)))
+paged i j page h e = filled j (page % 256) (omega arith) (filled i (page / 256) (omega arith) e)
+
+pub latched : {u v : Unit} (page number : ℕ) → page < 2 ^ 16 → number < 2 ^ 8 → Event u v → Event u (latch page number v)
+latched page number h k e = filled 6 number k (paged 0 1 page h e)
+
+pub event-clean : {u v : Unit} → Event u v → Clean-unit u → Clean-unit v
+event-clean same c = c
+event-clean (coded l h e) c = let k = event-clean e c in record { bytes = k .bytes; ac = k .ac; dp = k .dp; rdp = k .rdp; l = h }
+event-clean (told l rdp h q e) c = let k = event-clean e c in record { bytes = k .bytes; ac = k .ac; dp = k .dp; rdp = q; l = h }
+event-clean (aimed dp h e) c = let k = event-clean e c in record { bytes = k .bytes; ac = k .ac; dp = h; rdp = k .rdp; l = k .l }
+event-clean (filled i value h e) c = byte-clean _ i _ (event-clean e c) h
+event-clean (taken d h e) c = take-clean _ d (event-clean e c) h
+
+-- v has no mark that u lacks, and a byte that is marked in v is that of u
+abbrev pub Fewer : (u v : Unit) → Type 0
+Fewer u v = (i : ℕ) → byte v i .global ≡ true → byte v i ≡ byte u i
+
+pub event-fewer : {u v : Unit} → Event u v → Fewer u v
+event-fewer same = λ i g. refl
+event-fewer (coded l h e) = event-fewer e
+event-fewer (told l rdp h q e) = event-fewer e
+event-fewer (aimed dp h e) = event-fewer e
+event-fewer {u} (filled {v} i value h e) =
+    stored (λ k b. b .global ≡ true → b ≡ byte u k) (local 0) (v .accumulator) i (local value) (λ g. absurd (false≢true g)) (event-fewer e)
+event-fewer (taken d h e) = λ i g. absurd (false≢true (rw (List·getD-map local (bytes d) i 0) at g))
+
+pub event-rw : {u v : Unit} → Event u v → v .rw ≡ u .rw
+event-rw same = refl
+event-rw (coded l h e) = event-rw e
+event-rw (told l rdp h q e) = event-rw e
+event-rw (aimed dp h e) = event-rw e
+event-rw (filled i value h e) = event-rw e
+event-rw (taken d h e) = event-rw e
