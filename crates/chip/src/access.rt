@@ -119,7 +119,7 @@ impl System {
     }
 
     // One bus access; refusals 1, 4 and 5.
-    pub fn access(self, function_code: u64, cycle: Cycle, address: u64) -> Outcome
+    pub(crate) fn access(self, function_code: u64, cycle: Cycle, address: u64) -> Outcome
         ensures { λ r. ⌜ r ≡ performed (Access «function_code» cycle address) self ⌝ }
     {
         let count = self.shared.board.count;

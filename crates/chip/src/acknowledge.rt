@@ -10,7 +10,7 @@ use crate::system::System;
 
 impl System {
     // Refusals 1, 2 and 6.
-    pub fn acknowledge(self, unit: u64) -> Outcome
+    pub(crate) fn acknowledge(self, unit: u64) -> Outcome
         ensures { λ r. ⌜ r ≡ performed (Acknowledge unit) self ⌝ }
     {
         let count = self.shared.board.count;

@@ -67,7 +67,7 @@ pub struct Reading {
 }
 
 impl Refusal {
-    pub fn number(self) -> u8
+    fn number(self) -> u8
         ensures { λ r. ⌜ r ≡ number self ⌝ }
     {
         match self {

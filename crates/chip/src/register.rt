@@ -39,7 +39,7 @@ pub enum Operation {
 
 impl Register {
     // The row of an address; any other is a null operation.
-    pub fn at(address: u64) -> Register
+    fn at(address: u64) -> Register
         ensures { λ r. ⌜ r ≡ register-at address ⌝ }
     {
         match address {
@@ -136,7 +136,7 @@ impl System {
     }
 
     // One register access by byte; refusals 1, 2 and 3.
-    pub fn register(self, unit: u64, address: u64, operation: Operation) -> Outcome
+    pub(crate) fn register(self, unit: u64, address: u64, operation: Operation) -> Outcome
         ensures { λ r. ⌜ r ≡ performed (call.Register unit address operation) self ⌝ }
     {
         let count = self.shared.board.count;

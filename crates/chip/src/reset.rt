@@ -123,7 +123,7 @@ impl System {
     }
 
     // Refusals 1 and 2.
-    pub fn start(self, count: u64, selected: Selected) -> Outcome
+    pub(crate) fn start(self, count: u64, selected: Selected) -> Outcome
         ensures { λ r. ⌜ r ≡ performed (Start count selected) self ⌝ }
     {
         let n = count as usize;
@@ -147,7 +147,7 @@ impl System {
     }
 
     // Start for the count that is there.
-    pub fn reset(self, selected: Selected) -> Outcome
+    pub(crate) fn reset(self, selected: Selected) -> Outcome
         ensures { λ r. ⌜ r ≡ performed (Reset selected) self ⌝ }
     {
         let count = self.shared.board.count;

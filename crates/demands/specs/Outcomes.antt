@@ -1,7 +1,7 @@
 -- At most one outcome meets the promise of each public function: a claim for each, over the promise that the
 -- checker itself proves of it. In the order of the crates and of their source files; docs/PROMISES.md has a row
--- for each, and `.ci/claims` looks that none is missing.
-use Rattle.demands.specs.Promises.{At-most-one}
+-- for each. `.ci/claims write` writes the lists from the sources, and the gate sees that they are current.
+-- imports, by .ci/claims write
 -- masks
 use Rattle.masks.proofs.byte.agree as byte-agree
 use Rattle.masks.proofs.byte.clash as byte-clash
@@ -13,8 +13,6 @@ use Rattle.descriptors.proofs.descriptor.Descriptor.enabled as Descriptor-enabl
 use Rattle.descriptors.proofs.descriptor.Descriptor.protected as Descriptor-protected
 use Rattle.descriptors.proofs.descriptor.Descriptor.pending as Descriptor-pending
 use Rattle.descriptors.proofs.descriptor.Descriptor.with_ssr as Descriptor-with-ssr
-use Rattle.descriptors.proofs.descriptor.Descriptor.range_match as Descriptor-range-match
-use Rattle.descriptors.proofs.descriptor.Descriptor.space_match as Descriptor-space-match
 use Rattle.descriptors.proofs.descriptor.Descriptor.matches as Descriptor-matches
 use Rattle.descriptors.proofs.descriptor.Descriptor.physical_page as Descriptor-physical-page
 use Rattle.descriptors.proofs.descriptor.Descriptor.bytes as Descriptor-bytes
@@ -32,34 +30,21 @@ use Rattle.registers.proofs.shared.Shared.entry as Shared-entry
 use Rattle.registers.proofs.shared.Shared.with_entry as Shared-with-entry
 use Rattle.registers.proofs.shared.Shared.with_gsr as Shared-with-gsr
 use Rattle.registers.proofs.shared.Shared.with_ivr as Shared-with-ivr
-use Rattle.registers.proofs.unit.Unit.with_byte as Unit-with-byte
-use Rattle.registers.proofs.unit.Unit.with_dp as Unit-with-dp
-use Rattle.registers.proofs.unit.Unit.with_rdp as Unit-with-rdp
-use Rattle.registers.proofs.unit.Unit.with_l as Unit-with-l
-use Rattle.registers.proofs.unit.Unit.with_rw as Unit-with-rw
+use Rattle.registers.proofs.unit.rdp_of as unit-rdp-of
 use Rattle.registers.proofs.unit.Unit.report as Unit-report
 use Rattle.registers.proofs.unit.Unit.latch as Unit-latch
 use Rattle.registers.proofs.unit.Unit.take as Unit-take
 use Rattle.registers.proofs.unit.Unit.translated as Unit-translated
 use Rattle.registers.proofs.unit.Unit.change as Unit-change
 use Rattle.registers.proofs.unit.Unit.consistent as Unit-consistent
-use Rattle.registers.proofs.unit.Unit.gat as Unit-gat
-use Rattle.registers.proofs.unit.Unit.gal as Unit-gal
 use Rattle.registers.proofs.unit.Unit.lsr as Unit-lsr
 use Rattle.registers.proofs.unit.Unit.ac as Unit-ac
 use Rattle.registers.proofs.unit.Unit.page as Unit-page
 use Rattle.registers.proofs.unit.Unit.segment as Unit-segment
 -- chip
-use Rattle.chip.proofs.system.System.access as System-access
-use Rattle.chip.proofs.system.System.acknowledge as System-acknowledge
-use Rattle.chip.proofs.answer.Refusal.number as Refusal-number
 use Rattle.chip.proofs.answer.Answer.values as Answer-values
 use Rattle.chip.proofs.system.System.perform as System-perform
-use Rattle.chip.proofs.register.Register.at as Register-at
-use Rattle.chip.proofs.system.System.register as System-register
 use Rattle.chip.proofs.system.System.nothing as System-nothing
-use Rattle.chip.proofs.system.System.start as System-start
-use Rattle.chip.proofs.system.System.reset as System-reset
 -- block
 use Rattle.block.proofs.read.read as block-read
 use Rattle.block.proofs.write.write as block-write
@@ -70,16 +55,16 @@ use Rattle.cleftromi.proofs.cleftromi_access as cleftromi-access
 use Rattle.cleftromi.proofs.cleftromi_register as cleftromi-register
 use Rattle.cleftromi.proofs.cleftromi_acknowledge as cleftromi-acknowledge
 -- lines
-use Rattle.lines.proofs.line.parse as line-parse
 use Rattle.lines.proofs.text.Text.new as Text-new
 use Rattle.lines.proofs.text.Text.is_empty as Text-is-empty
 use Rattle.lines.proofs.text.Text.push as Text-push
 use Rattle.lines.proofs.text.within as text-within
-use Rattle.lines.proofs.text.bad as text-bad
-use Rattle.lines.proofs.text.print as text-print
 use Rattle.lines.proofs.turn.answer as turn-answer
+-- end
+use Rattle.demands.specs.Promises.{At-most-one}
 
 pub record Outcomes : Type 0 where
+  -- fields, by .ci/claims write
   -- masks
   pub byte-agree : At-most-one byte-agree.Kinds.ps byte-agree.Kinds.r byte-agree.Reads.Post
   pub byte-clash : At-most-one byte-clash.Kinds.ps byte-clash.Kinds.r byte-clash.Reads.Post
@@ -91,8 +76,6 @@ pub record Outcomes : Type 0 where
   pub Descriptor-protected : At-most-one Descriptor-protected.Kinds.ps Descriptor-protected.Kinds.r Descriptor-protected.Reads.Post
   pub Descriptor-pending : At-most-one Descriptor-pending.Kinds.ps Descriptor-pending.Kinds.r Descriptor-pending.Reads.Post
   pub Descriptor-with-ssr : At-most-one Descriptor-with-ssr.Kinds.ps Descriptor-with-ssr.Kinds.r Descriptor-with-ssr.Reads.Post
-  pub Descriptor-range-match : At-most-one Descriptor-range-match.Kinds.ps Descriptor-range-match.Kinds.r Descriptor-range-match.Reads.Post
-  pub Descriptor-space-match : At-most-one Descriptor-space-match.Kinds.ps Descriptor-space-match.Kinds.r Descriptor-space-match.Reads.Post
   pub Descriptor-matches : At-most-one Descriptor-matches.Kinds.ps Descriptor-matches.Kinds.r Descriptor-matches.Reads.Post
   pub Descriptor-physical-page : At-most-one Descriptor-physical-page.Kinds.ps Descriptor-physical-page.Kinds.r Descriptor-physical-page.Reads.Post
   pub Descriptor-bytes : At-most-one Descriptor-bytes.Kinds.ps Descriptor-bytes.Kinds.r Descriptor-bytes.Reads.Post
@@ -110,34 +93,21 @@ pub record Outcomes : Type 0 where
   pub Shared-with-entry : At-most-one Shared-with-entry.Kinds.ps Shared-with-entry.Kinds.r Shared-with-entry.Reads.Post
   pub Shared-with-gsr : At-most-one Shared-with-gsr.Kinds.ps Shared-with-gsr.Kinds.r Shared-with-gsr.Reads.Post
   pub Shared-with-ivr : At-most-one Shared-with-ivr.Kinds.ps Shared-with-ivr.Kinds.r Shared-with-ivr.Reads.Post
-  pub Unit-with-byte : At-most-one Unit-with-byte.Kinds.ps Unit-with-byte.Kinds.r Unit-with-byte.Reads.Post
-  pub Unit-with-dp : At-most-one Unit-with-dp.Kinds.ps Unit-with-dp.Kinds.r Unit-with-dp.Reads.Post
-  pub Unit-with-rdp : At-most-one Unit-with-rdp.Kinds.ps Unit-with-rdp.Kinds.r Unit-with-rdp.Reads.Post
-  pub Unit-with-l : At-most-one Unit-with-l.Kinds.ps Unit-with-l.Kinds.r Unit-with-l.Reads.Post
-  pub Unit-with-rw : At-most-one Unit-with-rw.Kinds.ps Unit-with-rw.Kinds.r Unit-with-rw.Reads.Post
+  pub unit-rdp-of : At-most-one unit-rdp-of.Kinds.ps unit-rdp-of.Kinds.r unit-rdp-of.Reads.Post
   pub Unit-report : At-most-one Unit-report.Kinds.ps Unit-report.Kinds.r Unit-report.Reads.Post
   pub Unit-latch : At-most-one Unit-latch.Kinds.ps Unit-latch.Kinds.r Unit-latch.Reads.Post
   pub Unit-take : At-most-one Unit-take.Kinds.ps Unit-take.Kinds.r Unit-take.Reads.Post
   pub Unit-translated : At-most-one Unit-translated.Kinds.ps Unit-translated.Kinds.r Unit-translated.Reads.Post
   pub Unit-change : At-most-one Unit-change.Kinds.ps Unit-change.Kinds.r Unit-change.Reads.Post
   pub Unit-consistent : At-most-one Unit-consistent.Kinds.ps Unit-consistent.Kinds.r Unit-consistent.Reads.Post
-  pub Unit-gat : At-most-one Unit-gat.Kinds.ps Unit-gat.Kinds.r Unit-gat.Reads.Post
-  pub Unit-gal : At-most-one Unit-gal.Kinds.ps Unit-gal.Kinds.r Unit-gal.Reads.Post
   pub Unit-lsr : At-most-one Unit-lsr.Kinds.ps Unit-lsr.Kinds.r Unit-lsr.Reads.Post
   pub Unit-ac : At-most-one Unit-ac.Kinds.ps Unit-ac.Kinds.r Unit-ac.Reads.Post
   pub Unit-page : At-most-one Unit-page.Kinds.ps Unit-page.Kinds.r Unit-page.Reads.Post
   pub Unit-segment : At-most-one Unit-segment.Kinds.ps Unit-segment.Kinds.r Unit-segment.Reads.Post
   -- chip
-  pub System-access : At-most-one System-access.Kinds.ps System-access.Kinds.r System-access.Reads.Post
-  pub System-acknowledge : At-most-one System-acknowledge.Kinds.ps System-acknowledge.Kinds.r System-acknowledge.Reads.Post
-  pub Refusal-number : At-most-one Refusal-number.Kinds.ps Refusal-number.Kinds.r Refusal-number.Reads.Post
   pub Answer-values : At-most-one Answer-values.Kinds.ps Answer-values.Kinds.r Answer-values.Reads.Post
   pub System-perform : At-most-one System-perform.Kinds.ps System-perform.Kinds.r System-perform.Reads.Post
-  pub Register-at : At-most-one Register-at.Kinds.ps Register-at.Kinds.r Register-at.Reads.Post
-  pub System-register : At-most-one System-register.Kinds.ps System-register.Kinds.r System-register.Reads.Post
   pub System-nothing : At-most-one System-nothing.Kinds.ps System-nothing.Kinds.r System-nothing.Reads.Post
-  pub System-start : At-most-one System-start.Kinds.ps System-start.Kinds.r System-start.Reads.Post
-  pub System-reset : At-most-one System-reset.Kinds.ps System-reset.Kinds.r System-reset.Reads.Post
   -- block
   pub block-read : At-most-one block-read.Kinds.ps block-read.Kinds.r block-read.Reads.Post
   pub block-write : At-most-one block-write.Kinds.ps block-write.Kinds.r block-write.Reads.Post
@@ -148,11 +118,9 @@ pub record Outcomes : Type 0 where
   pub cleftromi-register : At-most-one cleftromi-register.Kinds.ps cleftromi-register.Kinds.r cleftromi-register.Reads.Post
   pub cleftromi-acknowledge : At-most-one cleftromi-acknowledge.Kinds.ps cleftromi-acknowledge.Kinds.r cleftromi-acknowledge.Reads.Post
   -- lines
-  pub line-parse : At-most-one line-parse.Kinds.ps line-parse.Kinds.r line-parse.Reads.Post
   pub Text-new : At-most-one Text-new.Kinds.ps Text-new.Kinds.r Text-new.Reads.Post
   pub Text-is-empty : At-most-one Text-is-empty.Kinds.ps Text-is-empty.Kinds.r Text-is-empty.Reads.Post
   pub Text-push : At-most-one Text-push.Kinds.ps Text-push.Kinds.r Text-push.Reads.Post
   pub text-within : At-most-one text-within.Kinds.ps text-within.Kinds.r text-within.Reads.Post
-  pub text-bad : At-most-one text-bad.Kinds.ps text-bad.Kinds.r text-bad.Reads.Post
-  pub text-print : At-most-one text-print.Kinds.ps text-print.Kinds.r text-print.Reads.Post
   pub turn-answer : At-most-one turn-answer.Kinds.ps turn-answer.Kinds.r turn-answer.Reads.Post
+  -- end

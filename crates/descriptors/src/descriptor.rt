@@ -46,14 +46,14 @@ impl Descriptor {
     }
 
     // 4.5.3.1.
-    pub fn range_match(self, page: u16) -> bool
+    fn range_match(self, page: u16) -> bool
         ensures { λ r. ⌜ r ≡ range-match self page ⌝ }
     {
         word::agree(self.lam, page, self.lba)
     }
 
     // 4.5.3.1.
-    pub fn space_match(self, number: u8) -> bool
+    fn space_match(self, number: u8) -> bool
         ensures { λ r. ⌜ r ≡ space-match self number ⌝ }
     {
         byte::agree(self.asm, number, self.asn)

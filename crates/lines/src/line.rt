@@ -157,7 +157,7 @@ fn acknowledge(line: &[u8]) -> Line
     })
 }
 
-pub fn parse(line: &[u8]) -> Line
+pub(crate) fn parse(line: &[u8]) -> Line
     ensures { λ r. ⌜ r ≡ meaning (now (line .entry)) ⌝ }
 {
     if fits(b"S n m", line) {

@@ -139,13 +139,13 @@ fn read(byte: u8) -> Text
 }
 
 // The answer to a line that means nothing.
-pub fn bad() -> Text
+pub(crate) fn bad() -> Text
     ensures { λ r. ⌜ r ≡ text bad ⌝ }
 {
     Text::of(b"bad\n")
 }
 
-pub fn print(values: Values, irq: bool) -> Text
+pub(crate) fn print(values: Values, irq: bool) -> Text
     ensures { λ r. ⌜ r ≡ text (printed values irq) ⌝ }
 {
     if values.number != 0 {

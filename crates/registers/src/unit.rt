@@ -78,7 +78,7 @@ fn local(value: u8) -> Byte
 }
 
 impl Unit {
-    pub fn with_byte(mut self, i: usize, byte: Byte) -> Unit
+    fn with_byte(mut self, i: usize, byte: Byte) -> Unit
         ensures { λ r. ⌜ r ≡ with-byte self i byte ⌝ }
     {
         if i < 9 {
@@ -87,28 +87,28 @@ impl Unit {
         self
     }
 
-    pub fn with_dp(mut self, dp: u8) -> Unit
+    fn with_dp(mut self, dp: u8) -> Unit
         ensures { λ r. ⌜ r ≡ with-dp self dp ⌝ }
     {
         self.dp = dp;
         self
     }
 
-    pub fn with_rdp(mut self, rdp: u8) -> Unit
+    fn with_rdp(mut self, rdp: u8) -> Unit
         ensures { λ r. ⌜ r ≡ with-rdp self rdp ⌝ }
     {
         self.rdp = rdp;
         self
     }
 
-    pub fn with_l(mut self, l: u8) -> Unit
+    fn with_l(mut self, l: u8) -> Unit
         ensures { λ r. ⌜ r ≡ with-l self l ⌝ }
     {
         self.l = l;
         self
     }
 
-    pub fn with_rw(mut self, rw: bool) -> Unit
+    fn with_rw(mut self, rw: bool) -> Unit
         ensures { λ r. ⌜ r ≡ with-rw self rw ⌝ }
     {
         self.rw = rw;
@@ -192,7 +192,7 @@ impl Unit {
     }
 
     // 3.2.4: GAT.
-    pub fn gat(self) -> bool
+    fn gat(self) -> bool
         ensures { λ r. ⌜ r ≡ consistent for-translation self ⌝ }
     {
         let a = self.accumulator;
@@ -200,7 +200,7 @@ impl Unit {
     }
 
     // 3.2.4: GAL.
-    pub fn gal(self) -> bool
+    fn gal(self) -> bool
         ensures { λ r. ⌜ r ≡ consistent for-load self ⌝ }
     {
         let a = self.accumulator;
