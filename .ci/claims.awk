@@ -38,7 +38,7 @@ function parts(of,   i, at) {
 }
 
 # That two outcomes are equal, from p and q, that each keeps the promise: (the result, a tuple over the parameters).
-function proof(signature,   params, i, lent, lasts) {
+function proof(signature,   params, param, i, lent, lasts) {
     sub(/^[^(]*\( */, "", signature)
     # commas and parentheses within a type are none of the list's
     while (gsub(/\([^()]*\)|\[[^][]*\]|<[^<>]*>/, "", signature)) { }
@@ -56,12 +56,12 @@ function proof(signature,   params, i, lent, lasts) {
     return "(" (signature ~ /->/ ? "same " parts("") : "refl") ", " lasts ")"
 }
 
-# TYPE-NAME, or MODULE-NAME; with the crate where that is taken.
-function claim(path, name,   home, text) {
-    home = path
-    sub(/\.$/, "", home)
-    sub(/.*\./, "", home)
-    text = home == "" ? name : (home == name ? crate : home) "-" name
+# TYPE-NAME, or MODULE-NAME, and CRATE-NAME of a function that has its module's name; with the crate where that is taken.
+function claim(path, name,   of, text) {
+    of = path
+    sub(/\.$/, "", of)
+    sub(/.*\./, "", of)
+    text = of == "" ? name : (of == name ? crate : of) "-" name
     gsub(/_/, "-", text)
     if (text in taken) text = crate "-" text
     taken[text] = 1
