@@ -31,8 +31,8 @@ use Rattle.chip.proofs.Steps.{bus, performed-clean}
 use Rattle.block.specs.Layout.{Bytes, size, short, form, read, written}
 use Rattle.block.proofs.Round.{length-form, system-back}
 use Rattle.block.proofs.Tidy.{read-clean}
-use Rattle.cleftromi.specs.Interface.{number-of, refusals, answer, after}
-use Rattle.cleftromi.specs.Fields.{refusal}
+use Rattle.cleftromi.specs.Interface.{refusals, answer, after}
+use Rattle.cleftromi.specs.Fields.{number-of, refusal}
 use Rattle.cleftromi.proofs.Fields.{refusal-back}
 
 pub long-answer : (c : Call) (b : List ℕ) → short b ≡ false → let o = performed c (read b) in

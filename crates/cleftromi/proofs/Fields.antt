@@ -8,8 +8,7 @@ use mathlib.Core.Bool.{Bool}
 use native.Mathlib.Omega.{arith}
 use Rattle.chip.specs.declared.answer.Values.{Values}
 use Rattle.chip.proofs.Fit.{Fit, small}
-use Rattle.cleftromi.specs.Interface.{number-of}
-use Rattle.cleftromi.specs.Fields.{refusal, Fields}
+use Rattle.cleftromi.specs.Fields.{number-of, refusal, Fields}
 
 pub fields : (v : Values) (asserted : Bool) → Fit v → Fields v asserted (number-of v asserted)
 unfolding number-of

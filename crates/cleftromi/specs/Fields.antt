@@ -1,34 +1,63 @@
--- The fields of an answer, each read from its own bits, as the C header reads it (docs/LAYOUTS.md).
-use Prim.Native.Nat.{ℕ, _/_, _%_, _^_}
+-- The fields of an answer (docs/LAYOUTS.md): where each begins, how they are put together, and how the C header reads each from its
+-- own bits.
+use Prim.Native.Nat.{ℕ, _+_, _*_, _/_, _%_, _^_}
 use mathlib.Core.Path.{_≡_}
 use mathlib.Core.Bool.{Bool}
 use Rattle.registers.specs.Unit.{flag}
 use Rattle.chip.specs.declared.answer.Values.{Values}
 
+-- The first bit of each but the refusal, which begins at bit 0.
+abbrev pub KIND : ℕ
+KIND = 8
+
+abbrev pub IRQ : ℕ
+IRQ = 12
+
+abbrev pub WIN : ℕ
+WIN = 13
+
+abbrev pub UNIT : ℕ
+UNIT = 16
+
+abbrev pub DESCRIPTOR : ℕ
+DESCRIPTOR = 19
+
+abbrev pub BYTE : ℕ
+BYTE = 24
+
+abbrev pub ADDRESS : ℕ
+ADDRESS = 32
+
+-- each field at its place, and no wider than it
+unfoldable pub number-of : Values → (irq : Bool) → ℕ
+number-of v irq =
+    v .number + v .kind % 2 ^ 4 * 2 ^ KIND + flag irq * 2 ^ IRQ + flag (v .win) * 2 ^ WIN + v .unit % 2 ^ 3 * 2 ^ UNIT
+    + v .descriptor % 2 ^ 5 * 2 ^ DESCRIPTOR + v .byte * 2 ^ BYTE + v .address % 2 ^ 24 * 2 ^ ADDRESS
+
 -- the number of a refusal; a call is granted where it is zero
 abbrev pub refusal : (answer : ℕ) → ℕ
-refusal a = a % 2 ^ 8
+refusal a = a % 2 ^ KIND
 
 abbrev pub kind : (answer : ℕ) → ℕ
-kind a = a / 2 ^ 8 % 2 ^ 4
+kind a = a / 2 ^ KIND % 2 ^ 4
 
 abbrev pub irq : (answer : ℕ) → ℕ
-irq a = a / 2 ^ 12 % 2
+irq a = a / 2 ^ IRQ % 2
 
 abbrev pub win : (answer : ℕ) → ℕ
-win a = a / 2 ^ 13 % 2
+win a = a / 2 ^ WIN % 2
 
 abbrev pub unit : (answer : ℕ) → ℕ
-unit a = a / 2 ^ 16 % 2 ^ 3
+unit a = a / 2 ^ UNIT % 2 ^ 3
 
 abbrev pub descriptor : (answer : ℕ) → ℕ
-descriptor a = a / 2 ^ 19 % 2 ^ 5
+descriptor a = a / 2 ^ DESCRIPTOR % 2 ^ 5
 
 abbrev pub byte : (answer : ℕ) → ℕ
-byte a = a / 2 ^ 24 % 2 ^ 8
+byte a = a / 2 ^ BYTE % 2 ^ 8
 
 abbrev pub address : (answer : ℕ) → ℕ
-address a = a / 2 ^ 32
+address a = a / 2 ^ ADDRESS
 
 -- an answer that has these values, and IRQ
 pub record Fields (v : Values) (asserted : Bool) (a : ℕ) : Type 0 where

@@ -1,11 +1,11 @@
 -- What a call from C does to the lent block, and the number that it answers (docs/LAYOUTS.md).
-use Prim.Native.Nat.{ℕ, _+_, _*_, _%_, _^_}
+use Prim.Native.Nat.{ℕ}
 use mathlib.Core.Bool.{Bool, cond}
 use mathlib.Core.List.{List, _∷_}
 use lib.Dec.{eqb}
-use Rattle.registers.specs.Unit.{flag}
 use Rattle.chip.specs.Answer.{values, first-of, numbered}
 use Rattle.chip.specs.Call.{checks, carried-out}
+use Rattle.cleftromi.specs.Fields.{number-of}
 use Rattle.block.specs.Layout.{short, read, written}
 use Rattle.chip.specs.declared.access.Cycle.{Cycle}
 use Rattle.chip.specs.declared.access.Cycle.the-variants as cycle
@@ -13,7 +13,6 @@ use Rattle.chip.specs.declared.register.Operation.{Operation}
 use Rattle.chip.specs.declared.register.Operation.the-variants as operation
 use Rattle.chip.specs.declared.reset.Selected.{Selected}
 use Rattle.chip.specs.declared.reset.Selected.the-variants as selected
-use Rattle.chip.specs.declared.answer.Values.{Values}
 use Rattle.chip.specs.declared.call.Call.{Call}
 
 -- The numbers that a host passes: a unit, or 255 for none; direction 0 reads, any other number writes
@@ -28,12 +27,6 @@ cycle-by direction = cond (eqb direction 0) cycle.Read cycle.Write
 
 abbrev pub operation-by : (direction value : ℕ) → Operation
 operation-by direction value = cond (eqb direction 0) operation.Read (operation.Write value)
-
--- The answer: each field at its place, and no wider than it
-unfoldable pub number-of : Values → (irq : Bool) → ℕ
-number-of v irq =
-    v .number + v .kind % 16 * 2 ^ 8 + flag irq * 2 ^ 12 + flag (v .win) * 2 ^ 13 + v .unit % 8 * 2 ^ 16
-    + v .descriptor % 32 * 2 ^ 19 + v .byte * 2 ^ 24 + v .address % 2 ^ 24 * 2 ^ 32
 
 -- what a call checks, in this order, each with its number: 7, the lent block is too short; then its own checks
 abbrev pub refusals : Call → (block : List ℕ) → List (ℕ × Bool)

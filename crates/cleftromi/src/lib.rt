@@ -1,7 +1,8 @@
 // The functions that a C host calls, over the block that it lends and numbers of 64 bits.
 ghost use mathlib.Core.Path.{_≡_};
 ghost use Rattle.chip.specs.declared.call.Call.the-variants.{Start, Reset, Access, Register, Acknowledge};
-ghost use Rattle.cleftromi.specs.Interface.{selected-by, cycle-by, operation-by, number-of, answer, after};
+ghost use Rattle.cleftromi.specs.Interface.{selected-by, cycle-by, operation-by, answer, after};
+ghost use Rattle.cleftromi.specs.Fields.{number-of};
 use chip::access::Cycle;
 use chip::answer::Values;
 use chip::call::Call;

@@ -27,8 +27,8 @@ use Rattle.chip.proofs.Loading.{load-refused, load-granted, load-shared, load-h
 use Rattle.chip.proofs.Still.{access-answer}
 use Rattle.chip.proofs.Fit.{small}
 use Rattle.block.specs.Layout.{Bytes, short, read}
-use Rattle.cleftromi.specs.Interface.{cycle-by, number-of, answer}
-use Rattle.cleftromi.specs.Fields.{refusal, kind}
+use Rattle.cleftromi.specs.Interface.{cycle-by, answer}
+use Rattle.cleftromi.specs.Fields.{number-of, refusal, kind}
 use Rattle.cleftromi.proofs.Blocks.{long-answer, granted-told, granted-holds}
 use Rattle.demands.specs.Histories as histories
 use Rattle.demands.specs.Demands.{above-irq, Load, Demand-3}

@@ -64,7 +64,7 @@ Load unit value = Register unit 0x3F 0 value
 
 -- all of an answer above IRQ: WIN, unit, descriptor, byte and physical address
 abbrev pub above-irq : (answer : ℕ) → ℕ
-above-irq answer = answer / 2 ^ 13
+above-irq answer = answer / 2 ^ field.WIN
 
 pub record Demand-3 : Type 0 where
   -- "From a granted start or reset on, after any calls, as long as nothing else writes the state, no two enabled descriptors

@@ -2,7 +2,7 @@
 use borrow.Author.Needs.{needs}
 use native.Mathlib.Omega.{arith}
 use Rattle.registers.proofs.Numbers.{flag-byte, flag-small}
-use Rattle.cleftromi.specs.Interface.{number-of}
+use Rattle.cleftromi.specs.Fields.{number-of}
 use Rattle.cleftromi.proofs.number_of.Statement.{statement}
 use Rattle.cleftromi.proofs.number_of.Tie as tie
 
