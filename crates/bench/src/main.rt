@@ -2,7 +2,7 @@
 use chip::system::System;
 use libc::STDIN_FILENO;
 use libc::STDOUT_FILENO;
-use lines::text::Text;
+use text::Text;
 
 // Between two reads: the system, the line that has begun, and whether there is still a reader.
 struct Bench {
@@ -14,7 +14,7 @@ struct Bench {
 fn write(text: Text) -> bool {
     let length = text.length;
     let bytes = text.bytes;
-    let n = lines::text::within(length, &bytes);
+    let n = pieces::within(length, &bytes);
     io::write_all(STDOUT_FILENO, &bytes[..n])
 }
 

@@ -2,57 +2,43 @@
 --     descriptor-back, unit-back, shared-back     each piece
 --     system-back      a system in clean form is what its written form reads as, whatever follows
 -- Assumes nothing.
-use Prim.Native.Nat.{ℕ, _+_, _*_, _-_, _/_, _%_, _<_, _≤_}
-use mathlib.Core.Path.{_≡_, refl, sym, ap, _∙_}
-use mathlib.Core.Bool.{Bool, true, false}
+use Prim.Native.Nat.{ℕ, _+_, _*_, _-_, _%_, _<_, _≤_}
+use mathlib.Core.Path.{_≡_, refl, sym, ap}
+use mathlib.Core.Bool.{Bool}
 use mathlib.Core.List.{List, _++_, append-assoc}
 use native.Mathlib.Omega.{arith}
 use lib.ListN.{length, drop, getD, replicate, length-append, length-replicate}
-use lib.Seq.{take-all, take-at, drop-at, drop-drop}
+use lib.Seq.{take-at, drop-at, drop-drop}
 use lib.Dec.{lit<}
 use borrow.Author.Tests.{le-ltb}
-use Rattle.masks.specs.Fields.{bit}
 use Rattle.masks.proofs.Bits.{bit-field}
+use Rattle.pieces.specs.Pieces.{pieces}
+use Rattle.pieces.proofs.Bytes.{word-back}
+use Rattle.pieces.proofs.Parts.{length-pieces, pieces-at}
 use Rattle.descriptors.specs.Descriptor.{zeros}
-use Rattle.registers.specs.Unit.{RW, local, byte, flag, no-unit}
+use Rattle.registers.specs.Unit.{local, byte, marks, no-unit}
+use Rattle.registers.proofs.Back.{held-l, held-rw, gsr-back}
 use Rattle.chip.specs.Reset.{blank}
-use Rattle.registers.specs.Shared.{gsr-of, gsr-byte}
 use Rattle.descriptors.specs.declared.descriptor.Descriptor.{Descriptor}
 use Rattle.registers.specs.declared.unit.Byte.{Byte}
 use Rattle.registers.specs.declared.unit.Unit.{Unit}
-use Rattle.registers.specs.declared.shared.Gsr.{Gsr}
 use Rattle.registers.specs.declared.shared.Shared.{Shared}
 use Rattle.chip.specs.declared.system.System.{System}
-use Rattle.block.specs.Layout.{size, unit-place, descriptor-place, nine, marks, pieces, unit-bytes, descriptor-bytes, shared-bytes, form}
+use Rattle.block.specs.Layout.{size, unit-place, descriptor-place, nine, unit-bytes, descriptor-bytes, shared-bytes, form}
 use Rattle.block.specs.Layout.{unit-of, descriptor-of, shared-of, system-of, read}
 use Rattle.chip.specs.System.{present, unit, descriptor, each}
-use Rattle.block.proofs.Parts.{length-pieces, pieces-at}
-use Rattle.block.proofs.Lists.{gathered, filled-is}
+use Rattle.block.proofs.Lists.{filled-is}
 use Rattle.descriptors.specs.Clean.{Clean-descriptor}
 use Rattle.registers.specs.Clean.{Clean-unit, Clean-shared}
 use Rattle.chip.specs.Clean.{Clean}
 
--- a word in two bytes
-whole : (x : ℕ) → x % 256 + 256 * (x / 256) ≡ x
-whole x = omega arith
-
 pub descriptor-back : (d : Descriptor) (r : List ℕ) → Clean-descriptor d → descriptor-of (descriptor-bytes d ++ r) ≡ d
 unfolding descriptor-of descriptor-bytes
-descriptor-back d r c = rw (whole (d .lba), whole (d .lam), whole (d .pba), c .ssr)
+descriptor-back d r c = rw (word-back (d .lba), word-back (d .lam), word-back (d .pba), c .ssr)
 
 nine-of : (l : List Byte) → length l ≡ 9 → nine (λ i. getD l i (local 0)) ≡ l
 unfolding each
-nine-of l e = gathered 9 l (local 0) (local 0) (omega arith) ∙ take-all 9 l (omega arith)
-
--- the LSR's byte
-status-l : (l : ℕ) (b : Bool) → l < 16 → (16 * (l % 16) + 8 * flag b) / 16 ≡ l
-status-l l true h = omega arith
-status-l l false h = omega arith
-
-status-rw : (l : ℕ) (b : Bool) → bit (16 * (l % 16) + 8 * flag b) RW ≡ b
-unfolding bit
-status-rw l true = let odd : (16 * (l % 16) + 8) / 8 % 2 ≡ 1 = omega arith in rw odd
-status-rw l false = let even : (16 * (l % 16) + 0) / 8 % 2 ≡ 0 = omega arith in rw even
+nine-of l e = filled-is (local 0) 9 9 (λ i. getD l i (local 0)) (local 0) l e (λ i h k. refl) (λ i h k. absurd (omega arith))
 
 pub unit-back : (u : Unit) (r : List ℕ) → Clean-unit u → unit-of (unit-bytes u ++ r) ≡ u
 unfolding unit-of unit-bytes marks
@@ -60,7 +46,7 @@ unit-back u r c =
     let global : ℕ → Bool = λ i. byte u i .global in
     let five : u .dp % 32 ≡ u .dp = omega (arith, c .dp) in
     rw (
-      whole (marks (u .accumulator)),
+      word-back (marks u),
       bit-field 9 global 0 (lit< tt),
       bit-field 9 global 1 (lit< tt),
       bit-field 9 global 2 (lit< tt),
@@ -73,26 +59,15 @@ unit-back u r c =
       nine-of (u .accumulator) (c .bytes),
       five,
       c .rdp,
-      status-l (u .l) (u .rw) (c .l),
-      status-rw (u .l) (u .rw),
+      held-l u (c .l),
+      held-rw u,
     )
-
-gsr-back : (f df ie : Bool) → let g : Gsr = record { f = f; df = df; ie = ie } in gsr-of (gsr-byte g) ≡ g
-unfolding bit
-gsr-back true true true = refl
-gsr-back true true false = refl
-gsr-back true false true = refl
-gsr-back true false false = refl
-gsr-back false true true = refl
-gsr-back false true false = refl
-gsr-back false false true = refl
-gsr-back false false false = refl
 
 pub shared-back : (h : Shared) (r : List ℕ) → Clean-shared h → shared-of (shared-bytes h ++ r) ≡ h
 unfolding shared-of shared-bytes
 shared-back h r c =
     let small : h .board .count % 256 ≡ h .board .count = omega (arith, c .count) in
-    rw (take-at (h .table) r 16 (c .entries), gsr-back (h .gsr .f) (h .gsr .df) (h .gsr .ie), small)
+    rw (take-at (h .table) r 16 (c .entries), gsr-back (h .gsr), small)
 
 -- The parts of a block that a system was written to
 module _ (s : System) (table : length (s .shared .table) ≡ 16) (r : List ℕ) where

@@ -3,15 +3,20 @@
 --     one-form        writing what was read from a written block gives its bytes
 --     past-stays      bytes past the block stay, and so does the length
 -- Assumes nothing.
-use Prim.Native.Nat.{ℕ, zero, suc, _+_, _*_, _^_, _<_, _≤_, min}
+use Prim.Native.Nat.{ℕ, _*_, _^_, _<_, _≤_, min}
 use mathlib.Core.Path.{_≡_, refl, ap, _∙_}
-use mathlib.Core.Bool.{Bool, true, false, cond}
-use mathlib.Core.List.{List, [], _∷_, _++_}
+use mathlib.Core.Bool.{Bool, true, false, not, _&&_, _||_, cond}
+use mathlib.Core.List.{List, _++_}
+use native.Mathlib.Nat.{not-suc-le-zero}
 use native.Mathlib.Omega.{arith}
-use lib.Dec.{ltb, lit<}
-use lib.ListN.{length, take, drop, getD, replicate, length-drop, length-take, length-replicate, getD-replicate, List·getD-eq-default}
-use lib.Seq.{drop-at, getD-drop}
+use lib.Dec.{eqb, ltb, lit<}
+use lib.ListN.{length, drop, getD, replicate, length-drop, length-take, length-replicate, getD-replicate, List·getD-eq-default}
+use lib.Seq.{drop-at}
 use borrow.Author.Tests.{ltb-true, ltb-false}
+use Rattle.masks.specs.Fields.{bit}
+use Rattle.masks.proofs.Bits.{bit-field, field-cong}
+use Rattle.pieces.specs.Pieces.{Bytes}
+use Rattle.pieces.proofs.Bytes.{bytes-drop, bytes-take, bytes-zero, word-fits}
 use Rattle.descriptors.specs.Descriptor.{zeros}
 use Rattle.registers.specs.Unit.{local, no-unit, ac}
 use Rattle.registers.specs.Shared.{entry}
@@ -24,24 +29,12 @@ use Rattle.chip.proofs.Each.{each-at, each-past, length-each}
 use Rattle.descriptors.specs.declared.descriptor.Descriptor.{Descriptor}
 use Rattle.registers.specs.declared.unit.Unit.{Unit}
 use Rattle.chip.specs.declared.system.System.{System}
-use Rattle.block.specs.Layout.{Bytes, size, unit-place, descriptor-place, nine, byte-of, form, written}
+use Rattle.block.specs.Layout.{size, unit-place, descriptor-place, nine, byte-of, form, written}
 use Rattle.block.specs.Layout.{unit-of, descriptor-of, shared-of, system-of, read}
 use Rattle.descriptors.specs.Clean.{Clean-descriptor}
 use Rattle.registers.specs.Clean.{Clean-unit, Clean-shared}
 use Rattle.chip.specs.Clean.{Clean}
 use Rattle.block.proofs.Round.{length-form, system-back}
-
-bytes-drop : (n : ℕ) (b : List ℕ) → Bytes b → Bytes (drop n b)
-bytes-drop n b h i = rw getD-drop (h (n + i))
-
-bytes-take : (n : ℕ) (b : List ℕ) → Bytes b → Bytes (take n b)
-bytes-take zero b h i = lit< tt
-bytes-take (suc n) [] h i = lit< tt
-bytes-take (suc n) (x ∷ b) h zero = h 0
-bytes-take (suc n) (x ∷ b) h (suc i) = bytes-take n b (λ k. h (suc k)) i
-
-word-fits : {x y : ℕ} → x < 2 ^ 8 → y < 2 ^ 8 → x + 256 * y < 2 ^ 16
-word-fits h k = omega arith
 
 clean-descriptor : (b : List ℕ) → Bytes b → Clean-descriptor (descriptor-of b)
 unfolding descriptor-of

@@ -1,12 +1,13 @@
 -- The block that a host lends: where each register stands (docs/LAYOUTS.md). A word has its low byte first.
-use Prim.Native.Nat.{ℕ, zero, suc, _+_, _*_, _-_, _/_, _%_, _^_, _<_, min}
+use Prim.Native.Nat.{ℕ, _+_, _*_, _-_, _%_, min}
 use mathlib.Core.Bool.{Bool, cond}
 use mathlib.Core.List.{List, [], _∷_, _++_}
 use lib.Dec.{ltb}
 use lib.ListN.{length, take, drop, getD, replicate}
-use Rattle.masks.specs.Fields.{bit, field}
+use Rattle.masks.specs.Fields.{bit}
+use Rattle.pieces.specs.Pieces.{pieces, low-first, low-first-at}
 use Rattle.descriptors.specs.Status.{clean}
-use Rattle.registers.specs.Unit.{RW, rdp-of, flag, local, ac}
+use Rattle.registers.specs.Unit.{rdp-of, l-of, rw-of, ac, marks, held-lsr}
 use Rattle.registers.specs.Shared.{board, gsr-of, gsr-byte}
 use Rattle.chip.specs.System.{present, unit, descriptor, each}
 use Rattle.chip.specs.Reset.{nothing}
@@ -15,10 +16,6 @@ use Rattle.registers.specs.declared.unit.Byte.{Byte}
 use Rattle.registers.specs.declared.unit.Unit.{Unit}
 use Rattle.registers.specs.declared.shared.Shared.{Shared}
 use Rattle.chip.specs.declared.system.System.{System}
-
--- bytes, as the type of the lent block has them: `&mut [u8]`
-abbrev pub Bytes : (block : List ℕ) → Type 0
-Bytes b = (i : ℕ) → getD b i 0 < 2 ^ 8
 
 -- how many bytes a host lends
 abbrev pub size : ℕ
@@ -39,27 +36,12 @@ descriptor-place i = 128 + 9 * i
 abbrev pub nine : {A : Type 0} → (ℕ → A) → List A
 nine f = f 0 ∷ f 1 ∷ f 2 ∷ f 3 ∷ f 4 ∷ f 5 ∷ f 6 ∷ f 7 ∷ f 8 ∷ []
 
--- n pieces, one after the other
-unfoldable pub pieces : (n : ℕ) → (ℕ → List ℕ) → List ℕ
-pieces zero f = []
-pieces (suc n) f = pieces n f ++ f n
-
--- Writing. The nine marks of an accumulator, AC0's in bit 0
-unfoldable pub marks : List Byte → ℕ
-marks a = field 9 (λ i. getD a i (local 0) .global)
-
--- the LSR without its three worked-out bits
-abbrev pub status : Unit → ℕ
-status u = 16 * (u .l % 16) + 8 * flag (u .rw)
-
+-- Writing. A unit in 16 bytes, a descriptor in nine, and what the units share in 32
 unfoldable pub unit-bytes : Unit → List ℕ
-unit-bytes u =
-    nine (ac u) ++ marks (u .accumulator) % 256 ∷ marks (u .accumulator) / 256 ∷ u .dp ∷ status u ∷ u .rdp ∷ 0 ∷ 0 ∷ []
+unit-bytes u = nine (ac u) ++ low-first (marks u) ++ u .dp ∷ held-lsr u ∷ u .rdp ∷ 0 ∷ 0 ∷ []
 
 unfoldable pub descriptor-bytes : Descriptor → List ℕ
-descriptor-bytes d =
-    d .lba % 256 ∷ d .lba / 256 ∷ d .lam % 256 ∷ d .lam / 256 ∷ d .pba % 256 ∷ d .pba / 256
-    ∷ d .asn ∷ d .ssr ∷ d .asm ∷ []
+descriptor-bytes d = low-first (d .lba) ++ low-first (d .lam) ++ low-first (d .pba) ++ d .asn ∷ d .ssr ∷ d .asm ∷ []
 
 unfoldable pub shared-bytes : Shared → List ℕ
 shared-bytes h = h .board .count % 256 ∷ gsr-byte (h .gsr) ∷ h .ivr ∷ replicate 13 0 ++ h .table
@@ -77,13 +59,9 @@ form s =
 unfoldable pub written : (block : List ℕ) → System → List ℕ
 written b s = cond (short b) b (form s ++ drop size b)
 
--- Reading. A word of two bytes
-abbrev pub word-at : List ℕ → (i : ℕ) → ℕ
-word-at b i = getD b i 0 + 256 * getD b (i + 1) 0
-
--- byte i of the accumulator, with its mark
+-- Reading. Byte i of the accumulator, with its mark
 abbrev pub byte-of : List ℕ → (i : ℕ) → Byte
-byte-of b i = record { value = getD b i 0; global = bit (word-at b 9) i }
+byte-of b i = record { value = getD b i 0; global = bit (low-first-at b 9) i }
 
 -- a unit's registers and a descriptor, from where they stand on
 unfoldable pub unit-of : List ℕ → Unit
@@ -91,15 +69,15 @@ unit-of b = record {
   accumulator = nine (byte-of b);
   dp = getD b 11 0 % 32;
   rdp = rdp-of (getD b 13 0);
-  l = getD b 12 0 / 16;
-  rw = bit (getD b 12 0) RW;
+  l = l-of (getD b 12 0);
+  rw = rw-of (getD b 12 0);
 }
 
 unfoldable pub descriptor-of : List ℕ → Descriptor
 descriptor-of b = record {
-  lba = word-at b 0;
-  lam = word-at b 2;
-  pba = word-at b 4;
+  lba = low-first-at b 0;
+  lam = low-first-at b 2;
+  pba = low-first-at b 4;
   asn = getD b 6 0;
   ssr = clean (getD b 7 0);
   asm = getD b 8 0;

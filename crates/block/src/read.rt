@@ -24,17 +24,11 @@ pub(crate) fn present(count: usize) -> usize
     if count < 6 { count } else { 6 }
 }
 
-fn word(low: u8, high: u8) -> u16
-    ensures { λ r. ⌜ r ≡ low + 256 * high ⌝ }
-{
-    low as u16 + 256 * (high as u16)
-}
-
 fn accumulator_of(b: &[u8]) -> [Byte; 9]
     requires { ⌜ 16 ≤ length (now b) ⌝ }
     ensures { λ r. ⌜ r ≡ nine (byte-of (now (b .entry))) ⌝ }
 {
-    let marks = word(b[9], b[10]);
+    let marks = pieces::join(b[10], b[9]);
     let byte = Byte {
         value: 0,
         global: false,
@@ -57,8 +51,8 @@ fn unit_of(b: &[u8]) -> Unit
         accumulator: accumulator_of(b),
         dp: b[11] % 32,
         rdp: unit::rdp_of(b[13]),
-        l: b[12] / 16,
-        rw: b[12] & unit::RW != 0,
+        l: unit::l_of(b[12]),
+        rw: unit::rw_of(b[12]),
     }
 }
 
@@ -79,9 +73,9 @@ fn descriptor_of(b: &[u8]) -> Descriptor
     ensures { λ r. ⌜ r ≡ descriptor-of (now (b .entry)) ⌝ }
 {
     Descriptor {
-        lba: word(b[0], b[1]),
-        lam: word(b[2], b[3]),
-        pba: word(b[4], b[5]),
+        lba: pieces::join(b[1], b[0]),
+        lam: pieces::join(b[3], b[2]),
+        pba: pieces::join(b[5], b[4]),
         asn: b[6],
         ssr: status::clean(b[7]),
         asm: b[8],

@@ -3,25 +3,16 @@
 ghost use mathlib.Core.Path.{_≡_};
 ghost use mathlib.Core.List.{_++_};
 ghost use Prim.Native.Nat.{_+_, _*_, _-_, _≤_};
-ghost use lib.ListN.{length, drop, getD, replicate};
+ghost use lib.ListN.{length, drop, getD};
+ghost use Rattle.pieces.specs.Pieces.{pieces};
 ghost use Rattle.descriptors.specs.Descriptor.{zeros};
 ghost use Rattle.registers.specs.Unit.{no-unit};
-ghost use Rattle.block.specs.Layout.{pieces, marks, unit-bytes, descriptor-bytes, shared-bytes, written};
+ghost use Rattle.block.specs.Layout.{unit-bytes, descriptor-bytes, shared-bytes, written};
 use crate::read;
 use chip::system::System;
 use descriptors::descriptor::Descriptor;
 use registers::shared::Shared;
-use registers::unit::Byte;
 use registers::unit::Unit;
-
-fn put_zeros(b: &mut [u8], n: usize)
-    requires { ⌜ n ≤ length (now b) ⌝ }
-    ensures { λ r. ⌜ now (b .exit) ≡ replicate n 0 ++ drop n (now (b .entry)) ⌝ }
-{
-    for i in 0..n {
-        b[i] = 0;
-    }
-}
 
 fn put_descriptor(b: &mut [u8], d: Descriptor)
     requires { ⌜ 9 ≤ length (now b) ⌝ }
@@ -48,26 +39,12 @@ fn put_descriptors(b: &mut [u8], descriptors: [Descriptor; 192], n: usize)
     }
 }
 
-// A nested sum, as `field` is one.
-fn marks(a: [Byte; 9]) -> u16
-    ensures { λ r. ⌜ r ≡ marks a ⌝ }
-{
-    (a[8].global as u16) * 256
-        + ((a[7].global as u16) * 128
-            + ((a[6].global as u16) * 64
-                + ((a[5].global as u16) * 32
-                    + ((a[4].global as u16) * 16
-                        + ((a[3].global as u16) * 8
-                            + ((a[2].global as u16) * 4
-                                + ((a[1].global as u16) * 2 + a[0].global as u16)))))))
-}
-
 fn put_unit(b: &mut [u8], u: Unit)
     requires { ⌜ 16 ≤ length (now b) ⌝ }
     ensures { λ r. ⌜ now (b .exit) ≡ unit-bytes u ++ drop 16 (now (b .entry)) ⌝ }
 {
     let a = u.accumulator;
-    let marks = marks(a);
+    let marks = u.marks();
     b[0] = a[0].value;
     b[1] = a[1].value;
     b[2] = a[2].value;
@@ -80,7 +57,7 @@ fn put_unit(b: &mut [u8], u: Unit)
     b[9] = (marks % 256) as u8;
     b[10] = (marks / 256) as u8;
     b[11] = u.dp;
-    b[12] = 16 * (u.l % 16) + 8 * (u.rw as u8);
+    b[12] = u.held_lsr();
     b[13] = u.rdp;
     b[14] = 0;
     b[15] = 0;
@@ -109,7 +86,7 @@ fn put_shared(b: &mut [u8], shared: Shared)
     requires { ⌜ 32 ≤ length (now b) ⌝ }
     ensures { λ r. ⌜ now (b .exit) ≡ shared-bytes shared ++ drop 32 (now (b .entry)) ⌝ }
 {
-    put_zeros(b, 16);
+    pieces::put_zeros(b, 16);
     b[0] = (shared.board.count % 256) as u8;
     b[1] = shared.gsr.byte();
     b[2] = shared.ivr;
@@ -129,9 +106,9 @@ pub fn write(b: &mut [u8], system: System)
     let units = system.units;
     put_units(&mut b[32..], units, n);
     let past_units = 32 + 16 * n;
-    put_zeros(&mut b[past_units..], 16 * (6 - n));
+    pieces::put_zeros(&mut b[past_units..], 16 * (6 - n));
     let descriptors = system.descriptors;
     put_descriptors(&mut b[128..], descriptors, 32 * n);
     let past_descriptors = 128 + 288 * n;
-    put_zeros(&mut b[past_descriptors..], 3968 - 288 * n);
+    pieces::put_zeros(&mut b[past_descriptors..], 3968 - 288 * n);
 }

@@ -20,7 +20,7 @@ use Rattle.chip.specs.Clean.{Clean}
 use Rattle.chip.specs.declared.system.System.{System}
 use Rattle.chip.specs.declared.reset.Selected.{Selected}
 use Rattle.chip.specs.declared.reset.Selected.the-variants as selected
-use Rattle.registers.proofs.Numbers.{everywhere}
+use Rattle.pieces.proofs.Stores.{everywhere}
 use Rattle.chip.proofs.Once.{Apart}
 use Rattle.chip.proofs.Parts.{descriptor-there, descriptor-elsewhere}
 use Rattle.chip.proofs.Steps.{Clear, Steps, stays, renewed, units, turned, global, one-unit, shared, status, loaded, steps-clean}

@@ -18,7 +18,7 @@ use Rattle.descriptors.proofs.Clean.{zeros-clean}
 use Rattle.descriptors.specs.declared.descriptor.Descriptor.{Descriptor}
 use Rattle.registers.specs.Unit.{local, no-unit}
 use Rattle.registers.specs.Clean.{Clean-unit, Clean-shared}
-use Rattle.registers.proofs.Numbers.{stored, everywhere}
+use Rattle.pieces.proofs.Stores.{stored, everywhere}
 use Rattle.registers.proofs.Events.{same, untold, event-clean}
 use Rattle.registers.specs.declared.unit.Unit.{Unit}
 use Rattle.registers.specs.declared.shared.Board.{Board}

@@ -1,18 +1,14 @@
 -- Every value that a call answers fits its field of the 64-bit answer, so that nothing is cut off. Assumes nothing.
-use Prim.Native.Nat.{ℕ, _*_, _^_, _<_, _≤_}
+use Prim.Native.Nat.{ℕ, _*_, _^_, _<_}
 use mathlib.Core.Path.{_≡_, refl}
 use mathlib.Core.Bool.{Bool, true, false, _&&_, cond}
 use native.Mathlib.Omega.{arith}
-use lib.Dec.{lit<, lit≤}
-use Rattle.masks.specs.Fields.{bit}
+use lib.Dec.{lit<}
 use Rattle.masks.proofs.Laws.{gate-fits}
 use Rattle.descriptors.specs.Descriptor.{pending, protected, disable}
 use Rattle.descriptors.proofs.Clean.{status-fits}
 use Rattle.descriptors.specs.declared.descriptor.Descriptor.{Descriptor}
-use Rattle.registers.specs.Unit.{rdp-of, flag, consistent, for-translation, for-load, lsr}
-use Rattle.registers.specs.Shared.{gsr-byte}
-use Rattle.registers.specs.declared.unit.Unit.{Unit}
-use Rattle.registers.specs.declared.shared.Gsr.{Gsr}
+use Rattle.registers.proofs.Numbers.{lsr-fits, gsr-fits, rdp-fits}
 use Rattle.chip.specs.System.{present, unit, descriptor, pointed, with-descriptor}
 use Rattle.chip.specs.Search.{number-of, in-unit, lip}
 use Rattle.chip.specs.Answer.{number, values, refused, granted, reading}
@@ -72,23 +68,9 @@ translate-fits (At i) cycle page number offset s o h =
     })
 
 -- 4.6.1: the byte of each register
-pub small : (b : Bool) → flag b ≤ 1
-small true = lit≤ tt
-small false = lit≤ tt
-
-lsr-fits : (u : Unit) (lip : Bool) → lsr u lip < 2 ^ 8
-lsr-fits u lip =
-    omega (arith, small (u .rw), small (consistent for-translation u), small (consistent for-load u), small lip)
-
-gsr-fits : (g : Gsr) → gsr-byte g < 2 ^ 8
-gsr-fits g = omega (arith, small (g .f), small (g .df), small (g .ie))
-
 idp-fits : (f : Found) → number-of f < 2 ^ 8
 idp-fits (At i) = omega arith
 idp-fits Nowhere = lit< tt
-
-rdp-fits : (x : ℕ) → rdp-of x ≡ x → x < 2 ^ 8
-rdp-fits x e = rw (← e) (either (λ (n : ℕ). n < 2 ^ 8) (bit x 7) (λ b. lit< tt) (λ b. omega arith))
 
 load-fits : (d : Descriptor) (i : ℕ) (s : System) → load-at d i s .byte < 2 ^ 8
 unfolding load-at

@@ -16,7 +16,7 @@ use Rattle.chip.specs.Reset.{blank, unselected, fresh}
 use Rattle.chip.specs.declared.system.System.{System}
 use Rattle.chip.specs.declared.reset.Selected.{Selected}
 use Rattle.chip.specs.declared.reset.Selected.the-variants as selected
-use Rattle.registers.proofs.Numbers.{stored}
+use Rattle.pieces.proofs.Stores.{stored}
 use Rattle.registers.proofs.Events.{Fewer, event-fewer}
 use Rattle.chip.proofs.Each.{each-related}
 use Rattle.chip.proofs.Steps.{Steps, stays, renewed, units, turned, global, one-unit, shared, status, loaded}

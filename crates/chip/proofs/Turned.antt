@@ -9,7 +9,7 @@ use mathlib.Core.Bool.{Bool}
 use native.Mathlib.Omega.{arith}
 use lib.ListN.{length, getD-replicate}
 use Rattle.registers.specs.Unit.{no-unit}
-use Rattle.registers.proofs.Numbers.{stored}
+use Rattle.pieces.proofs.Stores.{stored}
 use Rattle.registers.proofs.Events.{event-rw}
 use Rattle.registers.specs.declared.unit.Unit.{Unit}
 use Rattle.registers.specs.declared.shared.Board.{Board}

@@ -28,7 +28,8 @@ use Rattle.chip.specs.declared.answer.Outcome.{Outcome}
 use Rattle.chip.specs.declared.call.Call.{Call}
 use Rattle.chip.proofs.Checked.{either, refusal-told, checks-law, carried-out-granted, performed-number, number-fits}
 use Rattle.chip.proofs.Steps.{bus, performed-clean}
-use Rattle.block.specs.Layout.{Bytes, size, short, form, read, written}
+use Rattle.pieces.specs.Pieces.{Bytes}
+use Rattle.block.specs.Layout.{size, short, form, read, written}
 use Rattle.block.proofs.Round.{length-form, system-back}
 use Rattle.block.proofs.Tidy.{read-clean}
 use Rattle.cleftromi.specs.Interface.{refusals, answer, after}

@@ -7,7 +7,8 @@ use mathlib.Core.Path.{_≡_}
 use mathlib.Core.Bool.{Bool}
 use native.Mathlib.Omega.{arith}
 use Rattle.chip.specs.declared.answer.Values.{Values}
-use Rattle.chip.proofs.Fit.{Fit, small}
+use Rattle.registers.proofs.Numbers.{small}
+use Rattle.chip.proofs.Fit.{Fit}
 use Rattle.cleftromi.specs.Fields.{number-of, refusal, Fields}
 
 pub fields : (v : Values) (asserted : Bool) → Fit v → Fields v asserted (number-of v asserted)

@@ -8,13 +8,14 @@ use lib.Dec.{eqb}
 use borrow.Author.Tests.{ne-eqb, eqb-true, eqb-false}
 use Rattle.chip.specs.declared.system.System.{System}
 use Rattle.chip.specs.Reset.{nothing}
-use Rattle.lines.specs.Ascii.{line-feed}
+use Rattle.text.specs.Ascii.{line-feed}
+use Rattle.text.specs.Text.{empty, is-empty, pushed, text, held}
+use Rattle.text.specs.declared.Text.{Text}
+use Rattle.text.proofs.Texts.{text-snoc, not-empty}
 use Rattle.lines.specs.Line.{meaning}
-use Rattle.lines.specs.Text.{empty, is-empty, pushed, text, held}
 use Rattle.lines.specs.Turn.{turn, lines, answers}
-use Rattle.lines.specs.declared.text.Text.{Text}
 use Rattle.lines.specs.declared.turn.Turn.{Turn}
-use Rattle.lines.proofs.Texts.{text-snoc, not-empty, meaning-held, told-held, long-bad}
+use Rattle.lines.proofs.Held.{meaning-held, told-held, long-bad}
 use Rattle.lines.proofs.Begun.{begun, begun-snoc, begun-ended, begun-last, line-for-line}
 use Rattle.demands.specs.Bench.{Answer, Prints, byte, feed, last, end, Bench}
 

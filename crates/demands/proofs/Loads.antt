@@ -25,8 +25,9 @@ use Rattle.chip.proofs.Once.{at-most-one}
 use Rattle.chip.proofs.Steps.{performed-clean}
 use Rattle.chip.proofs.Loading.{load-refused, load-granted, load-shared, load-harmless}
 use Rattle.chip.proofs.Still.{access-answer}
-use Rattle.chip.proofs.Fit.{small}
-use Rattle.block.specs.Layout.{Bytes, short, read}
+use Rattle.registers.proofs.Numbers.{small}
+use Rattle.pieces.specs.Pieces.{Bytes}
+use Rattle.block.specs.Layout.{short, read}
 use Rattle.cleftromi.specs.Interface.{cycle-by, answer}
 use Rattle.cleftromi.specs.Fields.{number-of, refusal, kind}
 use Rattle.cleftromi.proofs.Blocks.{long-answer, granted-told, granted-holds}

@@ -17,7 +17,8 @@ use Rattle.chip.specs.declared.call.Call.{Call}
 use Rattle.chip.specs.declared.call.Call.the-variants as call
 use Rattle.chip.proofs.Marked.{Agreed}
 use Rattle.chip.proofs.Events.{Faults, access-leaves, granted-leaves, refused-leaves, translation-leaves}
-use Rattle.block.specs.Layout.{Bytes, short, read}
+use Rattle.pieces.specs.Pieces.{Bytes}
+use Rattle.block.specs.Layout.{short, read}
 use Rattle.block.proofs.Tidy.{read-clean}
 use Rattle.cleftromi.specs.Interface.{cycle-by}
 use Rattle.cleftromi.specs.Fields.{kind}

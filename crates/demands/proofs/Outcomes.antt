@@ -27,6 +27,22 @@ outcomes = record {
   word-agree = λ κs a x y v w p q. (same p q, refl);
   word-clash = λ κs a x y v w p q. (same p q, refl);
   word-gate = λ κs a x y v w p q. (same p q, refl);
+  -- pieces
+  join = λ κs a x y v w p q. (same p q, refl);
+  within = λ κs a x y v w p q. (same p q, refl);
+  put-zeros = λ κs a x y v w p q. (refl, lent p q refl);
+  -- text
+  digits-decimal = λ κs a x y v w p q. (same p q, refl);
+  digits-hex = λ κs a x y v w p q. (same p q, refl);
+  digits-digit = λ κs a x y v w p q. (same p q, refl);
+  digits-byte-of = λ κs a x y v w p q. (same p q, refl);
+  digits-hex-digit = λ κs a x y v w p q. (same p q, refl);
+  Text-new = λ κs a x y v w p q. (same p q, refl);
+  Text-is-empty = λ κs a x y v w p q. (same p q, refl);
+  Text-push = λ κs a x y v w p q. (same p q, refl);
+  Text-with-bytes = λ κs a x y v w p q. (same p q, refl);
+  Text-of = λ κs a x y v w p q. (same p q, refl);
+  Text-with-number = λ κs a x y v w p q. (same p q, refl);
   -- descriptors
   Descriptor-enabled = λ κs a x y v w p q. (same p q, refl);
   Descriptor-protected = λ κs a x y v w p q. (same p q, refl);
@@ -50,12 +66,16 @@ outcomes = record {
   Shared-with-gsr = λ κs a x y v w p q. (same p q, refl);
   Shared-with-ivr = λ κs a x y v w p q. (same p q, refl);
   unit-rdp-of = λ κs a x y v w p q. (same p q, refl);
+  unit-l-of = λ κs a x y v w p q. (same p q, refl);
+  unit-rw-of = λ κs a x y v w p q. (same p q, refl);
   Unit-report = λ κs a x y v w p q. (same p q, refl);
   Unit-latch = λ κs a x y v w p q. (same p q, refl);
   Unit-take = λ κs a x y v w p q. (same p q, refl);
   Unit-translated = λ κs a x y v w p q. (same p q, refl);
   Unit-change = λ κs a x y v w p q. (same p q, refl);
   Unit-consistent = λ κs a x y v w p q. (same p q, refl);
+  Unit-marks = λ κs a x y v w p q. (same p q, refl);
+  Unit-held-lsr = λ κs a x y v w p q. (same p q, refl);
   Unit-lsr = λ κs a x y v w p q. (same p q, refl);
   Unit-ac = λ κs a x y v w p q. (same p q, refl);
   Unit-page = λ κs a x y v w p q. (same p q, refl);
@@ -74,10 +94,6 @@ outcomes = record {
   cleftromi-register = λ κs a x y v w p q. (same (p .0) (q .0), lent (p .1) (q .1) refl);
   cleftromi-acknowledge = λ κs a x y v w p q. (same (p .0) (q .0), lent (p .1) (q .1) refl);
   -- lines
-  Text-new = λ κs a x y v w p q. (same p q, refl);
-  Text-is-empty = λ κs a x y v w p q. (same p q, refl);
-  Text-push = λ κs a x y v w p q. (same p q, refl);
-  text-within = λ κs a x y v w p q. (same p q, refl);
   turn-answer = λ κs a x y v w p q. (same p q, refl);
   -- end
 }

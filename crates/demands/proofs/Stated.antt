@@ -24,7 +24,8 @@ use Rattle.chip.specs.declared.call.Call.the-variants as call
 use Rattle.chip.proofs.Checked.{performed-granted, refused-system}
 use Rattle.chip.proofs.Counts.{counted-present}
 use Rattle.chip.proofs.Fit.{performed-fit}
-use Rattle.block.specs.Layout.{Bytes, short, read}
+use Rattle.pieces.specs.Pieces.{Bytes}
+use Rattle.block.specs.Layout.{short, read}
 use Rattle.block.proofs.Tidy.{read-clean}
 use Rattle.cleftromi.specs.Interface.{answer, after}
 use Rattle.cleftromi.specs.Fields.{Fields, refusal}

@@ -8,18 +8,18 @@ use mathlib.Core.Bool.{Bool, true, false}
 use mathlib.Core.List.{List, [], _∷_, _++_}
 use lib.ListN.{length}
 use Rattle.chip.specs.declared.system.System.{System}
-use Rattle.lines.specs.Ascii.{line-feed}
+use Rattle.text.specs.Ascii.{line-feed}
+use Rattle.text.specs.Text.{held}
+use Rattle.text.specs.declared.Text.{Text}
 use Rattle.lines.specs.Line.{meaning}
-use Rattle.lines.specs.Text.{held}
 use Rattle.lines.specs.Turn.{lines, transcript}
 use Rattle.lines.specs.declared.line.Line.the-variants.{Bad}
-use Rattle.lines.specs.declared.text.Text.{Text}
 use Rattle.lines.specs.declared.turn.Turn.{Turn}
 use Rattle.demands.specs.Promises.{Returned}
 use Rattle.chip.proofs.system.System.nothing as System-nothing
-use Rattle.lines.proofs.text.Text.new as Text-new
-use Rattle.lines.proofs.text.Text.is_empty as Text-is-empty
-use Rattle.lines.proofs.text.Text.push as Text-push
+use Rattle.text.proofs.Text.new as Text-new
+use Rattle.text.proofs.Text.is_empty as Text-is-empty
+use Rattle.text.proofs.Text.push as Text-push
 use Rattle.lines.proofs.turn.answer as turn-answer
 
 -- each function that the loop calls, with these arguments and this result

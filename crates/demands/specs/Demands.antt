@@ -20,7 +20,8 @@ use Rattle.chip.specs.Event as event
 use Rattle.chip.specs.declared.search.Found.{Found}
 use Rattle.chip.specs.declared.answer.Outcome.{Outcome}
 use Rattle.chip.specs.declared.call.Call.{Call}
-use Rattle.block.specs.Layout.{Bytes, short, read, written}
+use Rattle.pieces.specs.Pieces.{Bytes}
+use Rattle.block.specs.Layout.{short, read, written}
 use Rattle.cleftromi.specs.Interface.{refusals}
 use Rattle.cleftromi.specs.Fields.{refusal, kind, Fields}
 use Rattle.cleftromi.specs.Fields as field

@@ -8,6 +8,22 @@ use Rattle.masks.proofs.byte.clash as byte-clash
 use Rattle.masks.proofs.word.agree as word-agree
 use Rattle.masks.proofs.word.clash as word-clash
 use Rattle.masks.proofs.word.gate as word-gate
+-- pieces
+use Rattle.pieces.proofs.join as join
+use Rattle.pieces.proofs.within as within
+use Rattle.pieces.proofs.put_zeros as put-zeros
+-- text
+use Rattle.text.proofs.digits.decimal as digits-decimal
+use Rattle.text.proofs.digits.hex as digits-hex
+use Rattle.text.proofs.digits.digit as digits-digit
+use Rattle.text.proofs.digits.byte_of as digits-byte-of
+use Rattle.text.proofs.digits.hex_digit as digits-hex-digit
+use Rattle.text.proofs.Text.new as Text-new
+use Rattle.text.proofs.Text.is_empty as Text-is-empty
+use Rattle.text.proofs.Text.push as Text-push
+use Rattle.text.proofs.Text.with_bytes as Text-with-bytes
+use Rattle.text.proofs.Text.of as Text-of
+use Rattle.text.proofs.Text.with_number as Text-with-number
 -- descriptors
 use Rattle.descriptors.proofs.descriptor.Descriptor.enabled as Descriptor-enabled
 use Rattle.descriptors.proofs.descriptor.Descriptor.protected as Descriptor-protected
@@ -31,12 +47,16 @@ use Rattle.registers.proofs.shared.Shared.with_entry as Shared-with-entry
 use Rattle.registers.proofs.shared.Shared.with_gsr as Shared-with-gsr
 use Rattle.registers.proofs.shared.Shared.with_ivr as Shared-with-ivr
 use Rattle.registers.proofs.unit.rdp_of as unit-rdp-of
+use Rattle.registers.proofs.unit.l_of as unit-l-of
+use Rattle.registers.proofs.unit.rw_of as unit-rw-of
 use Rattle.registers.proofs.unit.Unit.report as Unit-report
 use Rattle.registers.proofs.unit.Unit.latch as Unit-latch
 use Rattle.registers.proofs.unit.Unit.take as Unit-take
 use Rattle.registers.proofs.unit.Unit.translated as Unit-translated
 use Rattle.registers.proofs.unit.Unit.change as Unit-change
 use Rattle.registers.proofs.unit.Unit.consistent as Unit-consistent
+use Rattle.registers.proofs.unit.Unit.marks as Unit-marks
+use Rattle.registers.proofs.unit.Unit.held_lsr as Unit-held-lsr
 use Rattle.registers.proofs.unit.Unit.lsr as Unit-lsr
 use Rattle.registers.proofs.unit.Unit.ac as Unit-ac
 use Rattle.registers.proofs.unit.Unit.page as Unit-page
@@ -55,10 +75,6 @@ use Rattle.cleftromi.proofs.cleftromi_access as cleftromi-access
 use Rattle.cleftromi.proofs.cleftromi_register as cleftromi-register
 use Rattle.cleftromi.proofs.cleftromi_acknowledge as cleftromi-acknowledge
 -- lines
-use Rattle.lines.proofs.text.Text.new as Text-new
-use Rattle.lines.proofs.text.Text.is_empty as Text-is-empty
-use Rattle.lines.proofs.text.Text.push as Text-push
-use Rattle.lines.proofs.text.within as text-within
 use Rattle.lines.proofs.turn.answer as turn-answer
 -- end
 use Rattle.demands.specs.Promises.{At-most-one}
@@ -71,6 +87,22 @@ pub record Outcomes : Type 0 where
   pub word-agree : At-most-one word-agree.Kinds.ps word-agree.Kinds.r word-agree.Reads.Post
   pub word-clash : At-most-one word-clash.Kinds.ps word-clash.Kinds.r word-clash.Reads.Post
   pub word-gate : At-most-one word-gate.Kinds.ps word-gate.Kinds.r word-gate.Reads.Post
+  -- pieces
+  pub join : At-most-one join.Kinds.ps join.Kinds.r join.Reads.Post
+  pub within : At-most-one within.Kinds.ps within.Kinds.r within.Reads.Post
+  pub put-zeros : At-most-one put-zeros.Kinds.ps put-zeros.Kinds.r put-zeros.Reads.Post
+  -- text
+  pub digits-decimal : At-most-one digits-decimal.Kinds.ps digits-decimal.Kinds.r digits-decimal.Reads.Post
+  pub digits-hex : At-most-one digits-hex.Kinds.ps digits-hex.Kinds.r digits-hex.Reads.Post
+  pub digits-digit : At-most-one digits-digit.Kinds.ps digits-digit.Kinds.r digits-digit.Reads.Post
+  pub digits-byte-of : At-most-one digits-byte-of.Kinds.ps digits-byte-of.Kinds.r digits-byte-of.Reads.Post
+  pub digits-hex-digit : At-most-one digits-hex-digit.Kinds.ps digits-hex-digit.Kinds.r digits-hex-digit.Reads.Post
+  pub Text-new : At-most-one Text-new.Kinds.ps Text-new.Kinds.r Text-new.Reads.Post
+  pub Text-is-empty : At-most-one Text-is-empty.Kinds.ps Text-is-empty.Kinds.r Text-is-empty.Reads.Post
+  pub Text-push : At-most-one Text-push.Kinds.ps Text-push.Kinds.r Text-push.Reads.Post
+  pub Text-with-bytes : At-most-one Text-with-bytes.Kinds.ps Text-with-bytes.Kinds.r Text-with-bytes.Reads.Post
+  pub Text-of : At-most-one Text-of.Kinds.ps Text-of.Kinds.r Text-of.Reads.Post
+  pub Text-with-number : At-most-one Text-with-number.Kinds.ps Text-with-number.Kinds.r Text-with-number.Reads.Post
   -- descriptors
   pub Descriptor-enabled : At-most-one Descriptor-enabled.Kinds.ps Descriptor-enabled.Kinds.r Descriptor-enabled.Reads.Post
   pub Descriptor-protected : At-most-one Descriptor-protected.Kinds.ps Descriptor-protected.Kinds.r Descriptor-protected.Reads.Post
@@ -94,12 +126,16 @@ pub record Outcomes : Type 0 where
   pub Shared-with-gsr : At-most-one Shared-with-gsr.Kinds.ps Shared-with-gsr.Kinds.r Shared-with-gsr.Reads.Post
   pub Shared-with-ivr : At-most-one Shared-with-ivr.Kinds.ps Shared-with-ivr.Kinds.r Shared-with-ivr.Reads.Post
   pub unit-rdp-of : At-most-one unit-rdp-of.Kinds.ps unit-rdp-of.Kinds.r unit-rdp-of.Reads.Post
+  pub unit-l-of : At-most-one unit-l-of.Kinds.ps unit-l-of.Kinds.r unit-l-of.Reads.Post
+  pub unit-rw-of : At-most-one unit-rw-of.Kinds.ps unit-rw-of.Kinds.r unit-rw-of.Reads.Post
   pub Unit-report : At-most-one Unit-report.Kinds.ps Unit-report.Kinds.r Unit-report.Reads.Post
   pub Unit-latch : At-most-one Unit-latch.Kinds.ps Unit-latch.Kinds.r Unit-latch.Reads.Post
   pub Unit-take : At-most-one Unit-take.Kinds.ps Unit-take.Kinds.r Unit-take.Reads.Post
   pub Unit-translated : At-most-one Unit-translated.Kinds.ps Unit-translated.Kinds.r Unit-translated.Reads.Post
   pub Unit-change : At-most-one Unit-change.Kinds.ps Unit-change.Kinds.r Unit-change.Reads.Post
   pub Unit-consistent : At-most-one Unit-consistent.Kinds.ps Unit-consistent.Kinds.r Unit-consistent.Reads.Post
+  pub Unit-marks : At-most-one Unit-marks.Kinds.ps Unit-marks.Kinds.r Unit-marks.Reads.Post
+  pub Unit-held-lsr : At-most-one Unit-held-lsr.Kinds.ps Unit-held-lsr.Kinds.r Unit-held-lsr.Reads.Post
   pub Unit-lsr : At-most-one Unit-lsr.Kinds.ps Unit-lsr.Kinds.r Unit-lsr.Reads.Post
   pub Unit-ac : At-most-one Unit-ac.Kinds.ps Unit-ac.Kinds.r Unit-ac.Reads.Post
   pub Unit-page : At-most-one Unit-page.Kinds.ps Unit-page.Kinds.r Unit-page.Reads.Post
@@ -118,9 +154,5 @@ pub record Outcomes : Type 0 where
   pub cleftromi-register : At-most-one cleftromi-register.Kinds.ps cleftromi-register.Kinds.r cleftromi-register.Reads.Post
   pub cleftromi-acknowledge : At-most-one cleftromi-acknowledge.Kinds.ps cleftromi-acknowledge.Kinds.r cleftromi-acknowledge.Reads.Post
   -- lines
-  pub Text-new : At-most-one Text-new.Kinds.ps Text-new.Kinds.r Text-new.Reads.Post
-  pub Text-is-empty : At-most-one Text-is-empty.Kinds.ps Text-is-empty.Kinds.r Text-is-empty.Reads.Post
-  pub Text-push : At-most-one Text-push.Kinds.ps Text-push.Kinds.r Text-push.Reads.Post
-  pub text-within : At-most-one text-within.Kinds.ps text-within.Kinds.r text-within.Reads.Post
   pub turn-answer : At-most-one turn-answer.Kinds.ps turn-answer.Kinds.r turn-answer.Reads.Post
   -- end

@@ -2,21 +2,22 @@
 --     begun           a line that has begun, and what is still to come
 --     line-for-line   one line is printed for each
 -- Assumes nothing.
-use Prim.Native.Nat.{ℕ, zero, suc, _%_}
+use Prim.Native.Nat.{ℕ, zero, suc, _/_, _%_}
 use mathlib.Core.Path.{_≡_, refl, sym, ap, _∙_}
 use mathlib.Core.Bool.{Bool, true, false, not, _&&_, and-eq-true-iff}
 use mathlib.Core.List.{List, [], _∷_, _++_}
 use native.Mathlib.Omega.{arith}
-use lib.Dec.{eqb}
+use lib.Dec.{eqb, ltb}
 use lib.ListN.{length, getD}
+use Rattle.text.specs.Ascii.{ascii, line-feed}
+use Rattle.text.specs.Digits.{hex-digit, decimal-number}
 use Rattle.chip.specs.Answer.{values}
 use Rattle.chip.specs.Call.{performed}
 use Rattle.chip.specs.declared.answer.Values.{Values}
 use Rattle.chip.specs.declared.system.System.{System}
 use Rattle.chip.proofs.Checked.{either}
-use Rattle.lines.specs.Ascii.{ascii, line-feed}
 use Rattle.lines.specs.Line.{meaning}
-use Rattle.lines.specs.Text.{hex-digit, flag, printed}
+use Rattle.lines.specs.Print.{flag, printed}
 use Rattle.lines.specs.Turn.{told, left, longer, lines, answers}
 use Rattle.lines.specs.declared.line.Line.{Line}
 use Rattle.lines.specs.declared.line.Line.the-variants.{Called, Bad}
@@ -77,9 +78,14 @@ fed-lines (next {c} {l} {rest} e f) = rw e (go (lines l) (fed-lines f))
     go [] q = absurd (omega arith)
     go (l ∷ ls) q = q
 
+number-fed : (n : ℕ) (rest : List ℕ) → Fed (decimal-number n ++ ascii "\n" ++ rest) rest
+number-fed n rest =
+    either (λ (d : List ℕ). Fed (d ++ ascii "\n" ++ rest) rest) (ltb n 10) (λ e. next (plain-hex (n % 10)) feed)
+    (λ e. next (plain-hex (n / 10 % 10)) (next (plain-hex (n % 10)) feed))
+
 printed-fed : (v : Values) (irq : Bool) (rest : List ℕ) → Fed (printed v irq ++ rest) rest
 unfolding printed
-printed-fed v irq rest = search (either (λ (l : List ℕ). Fed (l ++ rest) rest), feed, next, plain-hex, plain-flag) depth 40
+printed-fed v irq rest = search (either (λ (l : List ℕ). Fed (l ++ rest) rest), feed, next, plain-hex, plain-flag, number-fed) depth 40
 
 told-fed : (l : Line) (s : System) (rest : List ℕ) → Fed (told l s ++ rest) rest
 told-fed (Called c) s rest = printed-fed (values (performed c s .answer)) (performed c s .irq) rest

@@ -11,7 +11,7 @@ use Rattle.chip.specs.Access.{match-at, translate-at, translate}
 use Rattle.chip.specs.Register.{register-at, read, write, operate}
 use Rattle.chip.specs.Call.{performed}
 use Rattle.lines.specs.Line.{fits, meaning}
-use Rattle.lines.specs.Text.{printed}
+use Rattle.lines.specs.Print.{printed}
 use Rattle.lines.specs.Turn.{transcript}
 use Rattle.lines.specs.Example.{example-input, example-output}
 

@@ -2,15 +2,13 @@
 use Prim.Native.Nat.{ℕ, zero, suc, _+_, _<_}
 use mathlib.Core.Path.{_≡_, refl, ap}
 use mathlib.Core.Logic.{_≢_}
-use mathlib.Core.Bool.{Bool, true, false, _&&_, _||_, and-eq-true-iff, false≢true}
+use mathlib.Core.Bool.{Bool, true, false, _&&_, and-eq-true-iff, false≢true}
 use mathlib.Core.List.{List, [], _∷_}
 use native.Mathlib.Nat.{le-of-suc-le-suc, not-suc-le-zero}
 use native.Mathlib.Numerals.{add-one}
 use native.Mathlib.Omega.{arith}
-use lib.Dec.{leb}
 use lib.ListN.{length, getD, drop}
-use borrow.Author.Tests.{leb-true, lt-ltb, le-ltb}
-use Rattle.lines.specs.Line.{decimal, hex, fits-at, fits, digit, byte-at}
+use Rattle.lines.specs.Line.{fits-at, fits}
 
 next : (form line : List ℕ) (i : ℕ) → i < length form → i < length line
     → fits (drop i form) (drop i line) ≡ fits-at (getD form i 0) (getD line i 0) && fits (drop (suc i) form) (drop (suc i) line)
@@ -57,21 +55,3 @@ fits-byte (f ∷ form) [] e i h = absurd (false≢true e)
 fits-byte (f ∷ form) (c ∷ line) e zero h = and-eq-true-iff (fits-at f c) (fits form line) .0 e .0
 fits-byte (f ∷ form) (c ∷ line) e (suc i) h =
     fits-byte form line (and-eq-true-iff (fits-at f c) (fits form line) .0 e .1) i (le-of-suc-le-suc h)
-
--- two hex digits are a byte
-hex-small : (c : ℕ) → hex c ≡ true → digit c < 16
-hex-small c = go (decimal c) refl
-  where
-    go : (b : Bool) → decimal c ≡ b → b || (leb 65 c && leb c 70) ≡ true → digit c < 16
-    go true q e =
-        let both = and-eq-true-iff (leb 48 c) (leb c 57) .0 q in
-        let high = leb-true c 57 (both .1) in
-        rw (lt-ltb c 65 (omega arith)) (omega arith)
-    go false q e =
-        let both = and-eq-true-iff (leb 65 c) (leb c 70) .0 e in
-        let low = leb-true 65 c (both .0) in
-        let high = leb-true c 70 (both .1) in
-        rw (le-ltb c 65 low) (omega arith)
-
-pub byte-small : (line : List ℕ) (i : ℕ) → hex (getD line i 0) ≡ true → hex (getD line (i + 1) 0) ≡ true → byte-at line i < 256
-byte-small line i h k = omega (arith, hex-small (getD line i 0) h, hex-small (getD line (i + 1) 0) k)

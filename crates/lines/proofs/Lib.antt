@@ -1,4 +1,4 @@
 pub mod Forms
-pub mod Texts
+pub mod Held
 pub mod Begun
 pub mod Example

@@ -1,7 +1,7 @@
 -- The example of document 01, "The bench program".
 use Prim.Native.Nat.{ℕ}
 use mathlib.Core.List.{List, _++_}
-use Rattle.lines.specs.Ascii.{ascii}
+use Rattle.text.specs.Ascii.{ascii}
 
 abbrev pub example-input : List ℕ
 example-input =

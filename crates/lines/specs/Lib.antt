@@ -1,5 +1,4 @@
-pub mod Ascii
 pub mod Line
-pub mod Text
+pub mod Print
 pub mod Turn
 pub mod Example

@@ -1,25 +1,19 @@
 -- What a line of the bench means: document 01, "The bench program". A line is its bytes without the line feed.
-use Prim.Native.Nat.{ℕ, _+_, _*_, _-_}
+use Prim.Native.Nat.{ℕ, _+_, _*_}
 use mathlib.Core.Bool.{Bool, true, false, _&&_, _||_, cond}
 use mathlib.Core.List.{List, [], _∷_}
-use lib.Dec.{eqb, ltb, leb}
+use lib.Dec.{eqb}
 use lib.ListN.{getD}
+use Rattle.text.specs.Ascii.{ascii, byte}
+use Rattle.text.specs.Digits.{decimal, hex, digit, byte-of}
 use Rattle.chip.specs.declared.call.Call.the-variants.{Start, Access, Register, Acknowledge}
 use Rattle.chip.specs.declared.access.Cycle.{Cycle}
 use Rattle.chip.specs.declared.access.Cycle.the-variants as cycle
 use Rattle.chip.specs.declared.register.Operation.the-variants as operation
 use Rattle.chip.specs.declared.reset.Selected.{Selected}
 use Rattle.chip.specs.declared.reset.Selected.the-variants as selected
-use Rattle.lines.specs.Ascii.{ascii, byte}
 use Rattle.lines.specs.declared.line.Line.{Line}
 use Rattle.lines.specs.declared.line.Line.the-variants.{Called, Bad}
-
--- a decimal digit, and a hex digit in capitals
-abbrev pub decimal : (c : ℕ) → Bool
-decimal c = leb (byte "0") c && leb c (byte "9")
-
-abbrev pub hex : (c : ℕ) → Bool
-hex c = decimal c || (leb (byte "A") c && leb c (byte "F"))
 
 -- A form has a letter for each byte of its line: n for a decimal digit, m for one or `-`, h for a hex digit, r for `R` or `W`; any
 -- other byte stands for itself
@@ -54,15 +48,12 @@ access-form = ascii "T h r hhhhhh"
 abbrev pub acknowledge-form : List ℕ
 acknowledge-form = ascii "A n"
 
--- the value of a digit; of the digit at place i, and of two hex digits from there on
-abbrev pub digit : (c : ℕ) → ℕ
-digit c = cond (ltb c (byte "A")) (c - byte "0") (c - byte "A" + 10)
-
+-- the value of the digit at place i, of two hex digits from there on, and of six
 abbrev pub digit-at : (line : List ℕ) (i : ℕ) → ℕ
 digit-at line i = digit (getD line i 0)
 
 abbrev pub byte-at : (line : List ℕ) (i : ℕ) → ℕ
-byte-at line i = 16 * digit-at line i + digit-at line (i + 1)
+byte-at line i = byte-of (getD line i 0) (getD line (i + 1) 0)
 
 abbrev pub address-at : (line : List ℕ) (i : ℕ) → ℕ
 address-at line i = 65536 * byte-at line i + 256 * byte-at line (i + 2) + byte-at line (i + 4)

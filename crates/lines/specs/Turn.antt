@@ -3,13 +3,14 @@ use Prim.Native.Nat.{ℕ}
 use mathlib.Core.Bool.{cond}
 use mathlib.Core.List.{List, [], _∷_, _++_}
 use lib.Dec.{eqb}
+use Rattle.text.specs.Ascii.{line-feed}
+use Rattle.text.specs.Text.{text}
 use Rattle.chip.specs.Answer.{values}
 use Rattle.chip.specs.Call.{performed}
 use Rattle.chip.specs.Reset.{nothing}
 use Rattle.chip.specs.declared.system.System.{System}
-use Rattle.lines.specs.Ascii.{line-feed}
 use Rattle.lines.specs.Line.{meaning}
-use Rattle.lines.specs.Text.{text, printed, bad}
+use Rattle.lines.specs.Print.{printed, bad}
 use Rattle.lines.specs.declared.line.Line.{Line}
 use Rattle.lines.specs.declared.line.Line.the-variants.{Called, Bad}
 use Rattle.lines.specs.declared.turn.Turn.{Turn}

@@ -1,3 +1,3 @@
 pub mod line;
-pub mod text;
+pub mod print;
 pub mod turn;

@@ -1,37 +1,26 @@
 // What a line of the bench means: document 01, "The bench program".
-ghost use Prim.Native.Nat.{_+_, _≤_, _<_, _^_};
+ghost use Prim.Native.Nat.{_+_, _≤_, _<_};
 ghost use mathlib.Core.Path.{_≡_};
 ghost use lib.ListN.{length};
-ghost use Rattle.lines.specs.Line.{decimal, hex, fits-at, fits, digit, byte-at, address-at, unit, direction, start-of, write-of, read-of, access-of, acknowledge-of, meaning};
+ghost use Rattle.lines.specs.Line.{fits-at, fits, byte-at, address-at, unit, direction, start-of, write-of, read-of, access-of, acknowledge-of, meaning};
 use chip::access::Cycle;
 use chip::call::Call;
 use chip::register::Operation;
 use chip::reset::Selected;
+use text::digits;
 
 pub enum Line {
     Called(Call),
     Bad,
 }
 
-fn decimal(c: u8) -> bool
-    ensures { λ r. ⌜ r ≡ decimal c ⌝ }
-{
-    b'0' <= c && c <= b'9'
-}
-
-fn hex(c: u8) -> bool
-    ensures { λ r. ⌜ r ≡ hex c ⌝ }
-{
-    decimal(c) || (b'A' <= c && c <= b'F')
-}
-
 fn fits_at(form: u8, c: u8) -> bool
     ensures { λ r. ⌜ r ≡ fits-at form c ⌝ }
 {
     match form {
-        b'n' => decimal(c),
-        b'm' => decimal(c) || c == b'-',
-        b'h' => hex(c),
+        b'n' => digits::decimal(c),
+        b'm' => digits::decimal(c) || c == b'-',
+        b'h' => digits::hex(c),
         b'r' => c == b'R' || c == b'W',
         _ => c == form,
     }
@@ -52,32 +41,20 @@ fn fits(form: &[u8], line: &[u8]) -> bool
     true
 }
 
-fn digit(c: u8) -> u64
-    ensures { λ r. ⌜ r ≡ digit c ⌝ }
-    ensures { λ r. ⌜ r < 256 ⌝ }
-{
-    if c < b'0' {
-        return 0;
-    }
-    if c < b'A' {
-        return (c - b'0') as u64;
-    }
-    (c - b'A') as u64 + 10
-}
-
-fn byte_at(line: &[u8], i: usize) -> u64
+fn byte_at(line: &[u8], i: usize) -> u16
     requires { ⌜ i + 1 < length (now line) ⌝ }
     ensures { λ r. ⌜ r ≡ byte-at (now (line .entry)) i ⌝ }
-    ensures { λ r. ⌜ r < 8192 ⌝ }
 {
-    16 * digit(line[i]) + digit(line[i + 1])
+    digits::byte_of(line[i], line[i + 1])
 }
 
 fn address_at(line: &[u8], i: usize) -> u64
     requires { ⌜ i + 5 < length (now line) ⌝ }
     ensures { λ r. ⌜ r ≡ address-at (now (line .entry)) i ⌝ }
 {
-    65536 * byte_at(line, i) + 256 * byte_at(line, i + 2) + byte_at(line, i + 4)
+    65536 * (byte_at(line, i) as u64)
+        + 256 * (byte_at(line, i + 2) as u64)
+        + byte_at(line, i + 4) as u64
 }
 
 fn unit(c: u8) -> Selected
@@ -86,7 +63,7 @@ fn unit(c: u8) -> Selected
     if c == b'-' {
         Selected::Nobody
     } else {
-        Selected::Unit(digit(c))
+        Selected::Unit(digits::digit(c) as u64)
     }
 }
 
@@ -101,7 +78,7 @@ fn start(line: &[u8]) -> Line
     requires { ⌜ 5 ≤ length (now line) ⌝ }
     ensures { λ r. ⌜ r ≡ start-of (now (line .entry)) ⌝ }
 {
-    let count = digit(line[2]);
+    let count = digits::digit(line[2]) as u64;
     let selected = unit(line[4]);
     Line::Called(Call::Start { count, selected })
 }
@@ -111,8 +88,8 @@ fn write(line: &[u8]) -> Line
     requires { ⌜ byte-at (now line) 7 < 256 ⌝ }
     ensures { λ r. ⌜ r ≡ write-of (now (line .entry)) ⌝ }
 {
-    let unit = digit(line[2]);
-    let address = byte_at(line, 4);
+    let unit = digits::digit(line[2]) as u64;
+    let address = byte_at(line, 4) as u64;
     let operation = Operation::Write(byte_at(line, 7) as u8);
     Line::Called(Call::Register {
         unit,
@@ -125,8 +102,8 @@ fn read(line: &[u8]) -> Line
     requires { ⌜ 6 ≤ length (now line) ⌝ }
     ensures { λ r. ⌜ r ≡ read-of (now (line .entry)) ⌝ }
 {
-    let unit = digit(line[2]);
-    let address = byte_at(line, 4);
+    let unit = digits::digit(line[2]) as u64;
+    let address = byte_at(line, 4) as u64;
     Line::Called(Call::Register {
         unit,
         address,
@@ -138,7 +115,7 @@ fn access(line: &[u8]) -> Line
     requires { ⌜ 12 ≤ length (now line) ⌝ }
     ensures { λ r. ⌜ r ≡ access-of (now (line .entry)) ⌝ }
 {
-    let function_code = digit(line[2]);
+    let function_code = digits::digit(line[2]) as u64;
     let cycle = direction(line[4]);
     let address = address_at(line, 6);
     Line::Called(Call::Access {
@@ -153,7 +130,7 @@ fn acknowledge(line: &[u8]) -> Line
     ensures { λ r. ⌜ r ≡ acknowledge-of (now (line .entry)) ⌝ }
 {
     Line::Called(Call::Acknowledge {
-        unit: digit(line[2]),
+        unit: digits::digit(line[2]) as u64,
     })
 }
 

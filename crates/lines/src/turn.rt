@@ -1,11 +1,11 @@
 // The bench: a line in, a line out.
 ghost use mathlib.Core.Path.{_≡_};
 ghost use Rattle.lines.specs.Line.{meaning};
-ghost use Rattle.lines.specs.Text.{held};
+ghost use Rattle.text.specs.Text.{held};
 ghost use Rattle.lines.specs.Turn.{turn};
 use crate::line::Line;
-use crate::text::Text;
 use chip::system::System;
+use text::Text;
 
 // What is printed for a line, and the whole system after it.
 pub struct Turn {
@@ -18,7 +18,7 @@ fn read(line: Text) -> Line
 {
     let length = line.length;
     let bytes = line.bytes;
-    let n = crate::text::within(length, &bytes);
+    let n = pieces::within(length, &bytes);
     crate::line::parse(&bytes[..n])
 }
 
@@ -29,12 +29,12 @@ pub fn answer(line: Text, system: System) -> Turn
         Line::Called(call) => {
             let outcome = system.perform(call);
             let answer = outcome.answer;
-            let text = crate::text::print(answer.values(), outcome.irq);
+            let text = crate::print::print(answer.values(), outcome.irq);
             let system = outcome.system;
             Turn { text, system }
         }
         Line::Bad => {
-            let text = crate::text::bad();
+            let text = crate::print::bad();
             Turn { text, system }
         }
     }

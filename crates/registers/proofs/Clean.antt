@@ -24,7 +24,7 @@ use Rattle.registers.specs.declared.unit.Byte.{Byte}
 use Rattle.registers.specs.declared.unit.Unit.{Unit}
 use Rattle.registers.specs.declared.shared.Gsr.{Gsr}
 use Rattle.registers.specs.declared.shared.Shared.{Shared}
-use Rattle.registers.proofs.Numbers.{stored}
+use Rattle.pieces.proofs.Stores.{stored}
 
 -- ---- RDP
 

@@ -17,7 +17,7 @@ use Rattle.descriptors.specs.declared.descriptor.Descriptor.{Descriptor}
 use Rattle.registers.specs.Unit.{NO, none, rdp-of, local, byte, with-byte, with-dp, with-l, report, latch, take}
 use Rattle.registers.specs.Clean.{Clean-unit}
 use Rattle.registers.specs.declared.unit.Unit.{Unit}
-use Rattle.registers.proofs.Numbers.{stored}
+use Rattle.pieces.proofs.Stores.{stored}
 use Rattle.registers.proofs.Clean.{none-clean, byte-clean, take-clean}
 
 pub data Event (u : Unit) : Unit → Type 0 where

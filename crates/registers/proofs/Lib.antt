@@ -1,3 +1,4 @@
 pub mod Numbers
 pub mod Clean
 pub mod Events
+pub mod Back

@@ -3,7 +3,8 @@ use Prim.Native.Nat.{ℕ, _+_, _*_, _/_, _%_}
 use mathlib.Core.Bool.{Bool, true, false, _&&_, cond}
 use mathlib.Core.List.{List, [], _∷_, map}
 use lib.ListN.{getD, set}
-use Rattle.masks.specs.Fields.{bit}
+use Rattle.masks.specs.Fields.{bit, field}
+use Rattle.pieces.specs.Pieces.{join}
 use Rattle.descriptors.specs.Status.{clean}
 use Rattle.descriptors.specs.Descriptor.{bytes}
 use Rattle.descriptors.specs.declared.descriptor.Descriptor.{Descriptor}
@@ -41,6 +42,13 @@ none = 0x80
 abbrev pub rdp-of : (value : ℕ) → ℕ
 rdp-of value = cond (bit value 7) none (value % 32)
 
+-- 3.2.4: L and RW, from the LSR's byte
+abbrev pub l-of : (value : ℕ) → ℕ
+l-of value = value / 16
+
+abbrev pub rw-of : (value : ℕ) → Bool
+rw-of value = bit value RW
+
 -- a byte of the accumulator that was written globally, and one that was not
 abbrev pub global : (value : ℕ) → Byte
 global value = record { value = value; global = true }
@@ -55,6 +63,10 @@ byte u i = getD (u .accumulator) i (local 0)
 -- its value
 abbrev pub ac : Unit → (i : ℕ) → ℕ
 ac u i = byte u i .value
+
+-- 3.2.4: the nine marks as a number, AC0's in bit 0
+unfoldable pub marks : Unit → ℕ
+marks u = field 9 (λ i. byte u i .global)
 
 -- The unit with one of its registers changed.
 abbrev pub with-accumulator : Unit → List Byte → Unit
@@ -105,7 +117,7 @@ write-dp value u = with-dp u (value % 32)
 
 -- 3.2.4: the LSR can be written, but GAL, GAT and LIP will not be affected
 abbrev pub write-lsr : (value : ℕ) → Unit → Unit
-write-lsr value u = with-rw (with-l u (value / 16)) (bit value RW)
+write-lsr value u = with-rw (with-l u (l-of value)) (rw-of value)
 
 -- 3.2.4: the bytes that must be globally consistent for a translation, and for a load
 abbrev pub for-translation : List ℕ
@@ -128,15 +140,17 @@ consistent (i ∷ is) u = byte u i .global && consistent is u
 abbrev pub flag : Bool → ℕ
 flag b = cond b 1 0
 
--- 3.2.4: L7 to L4, then RW, GAT, GAL and LIP down to bit 0
+-- 3.2.4: L7 to L4, then RW: what a unit holds of its LSR
+abbrev pub held-lsr : Unit → ℕ
+held-lsr u = 16 * (u .l % 16) + 8 * flag (u .rw)
+
+-- 3.2.4: GAT, GAL and LIP, which are worked out, follow down to bit 0
 abbrev pub lsr : Unit → (lip : Bool) → ℕ
-lsr u lip =
-    16 * (u .l % 16) + 8 * flag (u .rw) + 4 * flag (consistent for-translation u)
-    + 2 * flag (consistent for-load u) + flag lip
+lsr u lip = held-lsr u + 4 * flag (consistent for-translation u) + 2 * flag (consistent for-load u) + flag lip
 
 -- Table 3-1: a word of the accumulator, MSB first
 abbrev pub word : Unit → (i : ℕ) → ℕ
-word u i = 256 * ac u i + ac u (i + 1)
+word u i = join (ac u i) (ac u (i + 1))
 
 -- Table 3-1: the segment in the accumulator, its status in clean form
 abbrev pub segment : Unit → Descriptor

@@ -1,9 +1,9 @@
 // The registers that a unit has of its own: accumulator, descriptor pointers, local status (handbook 3.2.2 to 3.2.6).
 ghost use mathlib.Core.Path.{_≡_};
-ghost use Prim.Native.Nat.{_+_, _*_, _<_};
-ghost use Rattle.registers.specs.Unit.{rdp-of, local, ac, word, segment, needed, consistent, for-translation, for-load};
+ghost use Prim.Native.Nat.{_<_};
+ghost use Rattle.registers.specs.Unit.{rdp-of, l-of, rw-of, local, ac, marks, word, segment, needed, consistent, for-translation, for-load};
 ghost use Rattle.registers.specs.Unit.{with-byte, with-dp, with-rdp, with-l, with-rw, report, latch, take};
-ghost use Rattle.registers.specs.Unit.{translated, lsr};
+ghost use Rattle.registers.specs.Unit.{translated, held-lsr, lsr};
 ghost use Rattle.registers.specs.Change.{changed};
 use descriptors::descriptor::Descriptor;
 use descriptors::status;
@@ -22,7 +22,7 @@ pub const WV: u8 = 0b1100;
 // 3.2.6, 3.2.7: no valid result, no valid interrupt.
 pub const NONE: u8 = 0x80;
 
-pub const RW: u8 = 1 << 3;
+const RW: u8 = 1 << 3;
 
 // A byte of the accumulator, and whether it was last modified as a result of a global write (3.2.4).
 pub struct Byte {
@@ -62,10 +62,17 @@ pub fn rdp_of(value: u8) -> u8
     if value & NONE != 0 { NONE } else { value % 32 }
 }
 
-fn join(high: u8, low: u8) -> u16
-    ensures { λ r. ⌜ r ≡ 256 * high + low ⌝ }
+// 3.2.4: L and RW, from the LSR's byte.
+pub fn l_of(value: u8) -> u8
+    ensures { λ r. ⌜ r ≡ l-of value ⌝ }
 {
-    256 * (high as u16) + low as u16
+    value / 16
+}
+
+pub fn rw_of(value: u8) -> bool
+    ensures { λ r. ⌜ r ≡ rw-of value ⌝ }
+{
+    value & RW != 0
 }
 
 fn local(value: u8) -> Byte
@@ -173,7 +180,7 @@ impl Unit {
                 },
             ),
             Change::Dp(value) => self.with_dp(value % 32),
-            Change::Lsr(value) => self.with_l(value / 16).with_rw(value & RW != 0),
+            Change::Lsr(value) => self.with_l(l_of(value)).with_rw(rw_of(value)),
             Change::L(l) => self.with_l(l),
             Change::Rw(rw) => self.with_rw(rw),
             Change::Latch(page, number) => self.latch(page, number),
@@ -207,15 +214,33 @@ impl Unit {
         a[0].global & a[1].global & a[2].global & a[3].global & a[6].global & a[8].global
     }
 
+    // 3.2.4: the marks, AC0's in bit 0. A nested sum, as `field` is one.
+    pub fn marks(self) -> u16
+        ensures { λ r. ⌜ r ≡ marks self ⌝ }
+    {
+        let a = self.accumulator;
+        (a[8].global as u16) * 256
+            + ((a[7].global as u16) * 128
+                + ((a[6].global as u16) * 64
+                    + ((a[5].global as u16) * 32
+                        + ((a[4].global as u16) * 16
+                            + ((a[3].global as u16) * 8
+                                + ((a[2].global as u16) * 4
+                                    + ((a[1].global as u16) * 2 + a[0].global as u16)))))))
+    }
+
+    // 3.2.4: what a unit holds of its LSR; the other bits are worked out.
+    pub fn held_lsr(self) -> u8
+        ensures { λ r. ⌜ r ≡ held-lsr self ⌝ }
+    {
+        16 * (self.l % 16) + 8 * (self.rw as u8)
+    }
+
     // 3.2.4: the register as it is read.
     pub fn lsr(self, lip: bool) -> u8
         ensures { λ r. ⌜ r ≡ lsr self lip ⌝ }
     {
-        16 * (self.l % 16)
-            + 8 * (self.rw as u8)
-            + 4 * (self.gat() as u8)
-            + 2 * (self.gal() as u8)
-            + lip as u8
+        self.held_lsr() + 4 * (self.gat() as u8) + 2 * (self.gal() as u8) + lip as u8
     }
 
     // 3.2.2.
@@ -229,7 +254,7 @@ impl Unit {
         requires { ⌜ i < 8 ⌝ }
         ensures { λ r. ⌜ r ≡ word self i ⌝ }
     {
-        join(self.ac(i), self.ac(i + 1))
+        pieces::join(self.ac(i), self.ac(i + 1))
     }
 
     // 4.6.3.3: the logical address to be translated.

@@ -3,7 +3,7 @@ use mathlib.Core.Path.{sym}
 use borrow.Author.Needs.{needs}
 use lib.Seq.{length-take-le}
 use Rattle.masks.proofs.Free.{free}
-use Rattle.lines.proofs.Texts.{within-all}
+use Rattle.pieces.proofs.Bytes.{within-all}
 use Rattle.bench.proofs.write.Statement.{statement}
 use Rattle.bench.proofs.write.Tie as tie
 

@@ -33,7 +33,7 @@ loop-again : tie.Need-loop-again Inv-loop μ-loop
 unfolding bit
 loop-again c =
     let at = c .before .before .loop in
-    (omega arith, filled (local 0) (at .i) _ _ (at .accumulator) _ (at .inv .1) (rw (c .before .before .before .word .ensures)))
+    (omega arith, filled (local 0) (at .i) _ _ (at .accumulator) _ (at .inv .1) (rw (c .before .before .before .join .ensures)))
 
 returns : tie.Need-returns Inv-loop μ-loop
 unfolding each

@@ -10,9 +10,9 @@ unfolding descriptor-of
 returns c =
     let words = c .before .before .before .before in
     rw (
-      words .before .before .before .before .before .before .word .ensures,
-      words .before .before .before .word2 .ensures,
-      words .word3 .ensures,
+      words .before .before .before .before .before .before .join .ensures,
+      words .before .before .before .join2 .ensures,
+      words .join3 .ensures,
       c .before .clean .ensures,
     )
 

@@ -12,7 +12,8 @@ use Rattle.registers.specs.declared.shared.Shared.{Shared}
 use Rattle.chip.specs.declared.system.System.{System}
 use Rattle.chip.specs.System.{each}
 use Rattle.block.specs.Layout.{descriptor-place, descriptor-of, shared-of, system-of, read}
-use Rattle.block.proofs.Lists.{rest, filled}
+use Rattle.pieces.proofs.Parts.{rest}
+use Rattle.block.proofs.Lists.{filled}
 use Rattle.masks.proofs.Free.{free}
 use Rattle.block.proofs.read.read.Statement.{statement}
 use Rattle.block.proofs.read.read.Tie as tie

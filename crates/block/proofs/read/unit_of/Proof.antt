@@ -1,8 +1,5 @@
 -- `unit_of` meets its contract: each register from its bytes. Assumes nothing.
 use borrow.Author.Needs.{needs}
-use lib.ListN.{getD}
-use Rattle.registers.specs.Unit.{RW}
-use Rattle.masks.proofs.Bits.{bit-test}
 use Rattle.block.specs.Layout.{unit-of}
 use Rattle.masks.proofs.Free.{free}
 use Rattle.block.proofs.read.unit_of.Statement.{statement}
@@ -11,15 +8,15 @@ use Rattle.block.proofs.read.unit_of.Tie as tie
 returns : tie.Need-returns
 unfolding unit-of
 returns c =
-    let start = c .before .before .before .before .before .before .before in
     rw (
-      c .before .before .before .before .before .accumulator-of .ensures,
-      c .before .before .rdp-of .ensures,
-      bit-test (getD (start .args .b .now) 12 0) RW,
+      c .before .before .before .before .before .before .before .accumulator-of .ensures,
+      c .before .before .before .before .rdp-of .ensures,
+      c .before .before .l-of .ensures,
+      c .rw-of .ensures,
     )
 
 pub unit-of-spec : {M : Type 1} → statement M
 unit-of-spec =
     tie.close
     (tie.spec
-    (λ c κs. search needs) (λ c. search needs) (λ c. search needs) free (λ c. search needs) (λ c. search needs) returns)
+    (λ c κs. search needs) (λ c. search needs) (λ c. search needs) free (λ c. search needs) free (λ c. search needs) free returns)

@@ -5,7 +5,7 @@ use mathlib.Core.Path.{refl}
 use lib.ListN.{getD, length-take, length-drop}
 use Rattle.descriptors.specs.Descriptor.{zeros}
 use Rattle.block.specs.Layout.{descriptor-bytes}
-use Rattle.block.proofs.Parts.{Done, begun, next, ended}
+use Rattle.pieces.proofs.Parts.{Done, begun, next, ended}
 use Rattle.block.proofs.write.put_descriptors.Statement.{statement}
 use Rattle.block.proofs.write.put_descriptors.Tie as tie
 

@@ -9,7 +9,8 @@ use lib.ListN.{length, drop, set, replicate, length-set, length-take, length-dro
 use Rattle.registers.specs.Shared.{gsr-byte}
 use Rattle.registers.specs.declared.shared.Shared.{Shared}
 use Rattle.block.specs.Layout.{shared-bytes}
-use Rattle.block.proofs.Parts.{appended}
+use Rattle.pieces.proofs.Bytes.{zeroed-front}
+use Rattle.pieces.proofs.Parts.{appended}
 use Rattle.masks.proofs.Free.{free}
 use Rattle.block.proofs.write.put_shared.Statement.{statement}
 use Rattle.block.proofs.write.put_shared.Tie as tie
@@ -36,7 +37,7 @@ returns c =
     let b : List ℕ = stored (at .put-zeros .last .0) h (c .before .before .before .before .before .byte .result) in
     let front : List ℕ = h .board .count % 256 ∷ gsr-byte (h .gsr) ∷ h .ivr ∷ replicate 13 0 in
     let written : b ≡ front ++ drop 16 (start .args .b .now) =
-    rw (at .put-zeros .ensures, c .before .before .before .before .before .byte .ensures) in
+    rw (at .put-zeros .ensures ∙ zeroed-front 16 (start .args .b .now) (omega arith), c .before .before .before .before .before .byte .ensures) in
     appended front (h .table) (start .args .b .now) b (c .before .before .put-table .last .0) 16 16 refl written
     (c .before .before .put-table .ensures)
 

@@ -6,7 +6,7 @@ use mathlib.Core.Path.{_≡_, refl, _∙_}
 use mathlib.Core.List.{_++_}
 use lib.ListN.{length, take, drop, length-set}
 use lib.Seq.{take-all}
-use Rattle.block.proofs.Parts.{copied-more}
+use Rattle.pieces.proofs.Parts.{copied-more}
 use Rattle.block.proofs.write.put_table.Statement.{statement}
 use Rattle.block.proofs.write.put_table.Tie as tie
 

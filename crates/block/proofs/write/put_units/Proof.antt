@@ -5,7 +5,7 @@ use mathlib.Core.Path.{refl}
 use lib.ListN.{getD, length-take, length-drop}
 use Rattle.registers.specs.Unit.{no-unit}
 use Rattle.block.specs.Layout.{unit-bytes}
-use Rattle.block.proofs.Parts.{Done, begun, next, ended}
+use Rattle.pieces.proofs.Parts.{Done, begun, next, ended}
 use Rattle.block.proofs.write.put_units.Statement.{statement}
 use Rattle.block.proofs.write.put_units.Tie as tie
 

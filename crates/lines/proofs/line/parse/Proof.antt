@@ -2,10 +2,12 @@
 use mathlib.Core.Path.{_∙_, sym}
 use native.Mathlib.Omega.{arith}
 use lib.Dec.{lit<}
+use lib.ListN.{getD}
 use borrow.Author.Needs.{needs}
 use Rattle.masks.proofs.Free.{free}
 use Rattle.lines.specs.Line.{start-form, write-form, read-form, access-form, acknowledge-form, meaning}
-use Rattle.lines.proofs.Forms.{fits-long, fits-byte, byte-small}
+use Rattle.text.proofs.Values.{byte-small}
+use Rattle.lines.proofs.Forms.{fits-long, fits-byte}
 use Rattle.lines.proofs.line.parse.Statement.{statement}
 use Rattle.lines.proofs.line.parse.Tie as tie
 
@@ -21,7 +23,7 @@ write-requires c κs =
     let line = c .before .before .before .before .before .before .before .args .line in
     let e = sym (c .before .fits3 .ensures) ∙ c .if2 .taken in (
       omega (arith, fits-long write-form _ e),
-      byte-small (line .now) 7 (fits-byte write-form (line .now) e 7 (lit< tt)) (fits-byte write-form (line .now) e 8 (lit< tt)),
+      byte-small (getD (line .now) 7 0) (getD (line .now) 8 0) (fits-byte write-form (line .now) e 7 (lit< tt)) (fits-byte write-form (line .now) e 8 (lit< tt)),
     )
 
 returns-2 : tie.Need-returns-2

@@ -3,7 +3,7 @@ use mathlib.Core.Path.{sym}
 use borrow.Author.Needs.{needs}
 use lib.Seq.{length-take-le}
 use Rattle.masks.proofs.Free.{free}
-use Rattle.lines.proofs.Texts.{within-all, take-within}
+use Rattle.pieces.proofs.Bytes.{within-all, take-within}
 use Rattle.lines.proofs.turn.read.Statement.{statement}
 use Rattle.lines.proofs.turn.read.Tie as tie
 

@@ -1,7 +1,5 @@
 -- `Unit::change` meets its contract. Assumes nothing.
 use borrow.Author.Needs.{needs}
-use Rattle.masks.proofs.Bits.{bit-test}
-use Rattle.registers.specs.Unit.{RW}
 use Rattle.masks.proofs.Free.{free}
 use Rattle.registers.proofs.unit.Unit.change.Statement.{statement}
 use Rattle.registers.proofs.unit.Unit.change.Tie as tie
@@ -14,8 +12,13 @@ returns-2 c = rw (c .before .before .change2 .given .1) (c .with-dp .ensures)
 
 returns-3 : tie.Need-returns-3
 returns-3 c =
-    let known = c .before .before .before .change3 .given in
-    rw (known .1, c .with-rw .ensures, c .before .with-l .ensures, bit-test (known .0 .0) RW)
+    rw (
+      c .before .before .before .before .before .change3 .given .1,
+      c .with-rw .ensures,
+      c .before .rw-of .ensures,
+      c .before .before .with-l .ensures,
+      c .before .before .before .l-of .ensures,
+    )
 
 returns-4 : tie.Need-returns-4
 returns-4 c = rw (c .before .before .change4 .given .1) (c .with-l2 .ensures)
@@ -33,6 +36,6 @@ pub change-spec : {M : Type 1} → statement M
 change-spec =
     tie.close
     (tie.spec
-    (λ c. search needs) free (λ c. search needs) free (λ c. search needs) free free (λ c. search needs) free
+    (λ c. search needs) free (λ c. search needs) free (λ c. search needs) free free free free (λ c. search needs) free
     (λ c. search needs) free (λ c. search needs) free (λ c. search needs) free returns returns-2 returns-3 returns-4
     returns-5 returns-6 returns-7)
