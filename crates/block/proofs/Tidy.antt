@@ -5,18 +5,15 @@
 -- Assumes nothing.
 use Prim.Native.Nat.{ℕ, _*_, _^_, _<_, _≤_, min}
 use mathlib.Core.Path.{_≡_, refl, ap, _∙_}
-use mathlib.Core.Bool.{Bool, true, false, not, _&&_, _||_, cond}
+use mathlib.Core.Bool.{Bool, true, false, cond}
 use mathlib.Core.List.{List, _++_}
-use native.Mathlib.Nat.{not-suc-le-zero}
 use native.Mathlib.Omega.{arith}
-use lib.Dec.{eqb, ltb, lit<}
+use lib.Dec.{ltb, lit<}
 use lib.ListN.{length, drop, getD, replicate, length-drop, length-take, length-replicate, getD-replicate, List·getD-eq-default}
 use lib.Seq.{drop-at}
 use borrow.Author.Tests.{ltb-true, ltb-false}
-use Rattle.masks.specs.Fields.{bit}
-use Rattle.masks.proofs.Bits.{bit-field, field-cong}
 use Rattle.pieces.specs.Pieces.{Bytes}
-use Rattle.pieces.proofs.Bytes.{bytes-drop, bytes-take, bytes-zero, word-fits}
+use Rattle.pieces.proofs.Bytes.{bytes-drop, bytes-take, word-fits}
 use Rattle.descriptors.specs.Descriptor.{zeros}
 use Rattle.registers.specs.Unit.{local, no-unit, ac}
 use Rattle.registers.specs.Shared.{entry}

@@ -19,7 +19,7 @@ use Rattle.descriptors.specs.declared.descriptor.Descriptor.{Descriptor}
 use Rattle.registers.specs.Unit.{local, no-unit}
 use Rattle.registers.specs.Clean.{Clean-unit, Clean-shared}
 use Rattle.pieces.proofs.Stores.{stored, everywhere}
-use Rattle.registers.proofs.Events.{same, untold, event-clean}
+use Rattle.registers.proofs.Becomes.{same, untold, becomes-clean}
 use Rattle.registers.specs.declared.unit.Unit.{Unit}
 use Rattle.registers.specs.declared.shared.Board.{Board}
 use Rattle.registers.specs.declared.shared.Shared.{Shared}
@@ -112,7 +112,7 @@ unselected-clean board h =
     units-clean _ _
     (empty-clean (uninitialized board)
     (record { entries = refl; entry = zero-fits; ivr = lit< tt; count = omega arith }))
-    (λ m u. event-clean (untold same))
+    (λ m u. becomes-clean (untold same))
 
 pub fresh-clean : (board : Board) (unit : Selected) → board .count ≤ 6 → unselectable unit (board .count) ≡ false → Clean (fresh board unit)
 unfolding fresh unselected with-units with-shared

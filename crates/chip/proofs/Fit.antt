@@ -1,5 +1,5 @@
 -- Every value that a call answers fits its field of the 64-bit answer, so that nothing is cut off. Assumes nothing.
-use Prim.Native.Nat.{ℕ, _*_, _^_, _<_}
+use Prim.Native.Nat.{ℕ, _/_, _%_, _^_, _<_}
 use mathlib.Core.Path.{_≡_, refl}
 use mathlib.Core.Bool.{Bool, true, false, _&&_, cond}
 use native.Mathlib.Omega.{arith}
@@ -11,7 +11,8 @@ use Rattle.descriptors.specs.declared.descriptor.Descriptor.{Descriptor}
 use Rattle.registers.proofs.Numbers.{lsr-fits, gsr-fits, rdp-fits}
 use Rattle.chip.specs.System.{present, unit, descriptor, pointed, with-descriptor}
 use Rattle.chip.specs.Search.{number-of, in-unit, lip}
-use Rattle.chip.specs.Answer.{number, values, refused, granted, reading}
+use Rattle.chip.specs.Answer.{number, done, byte-read, mapped, violating, undefined, values, refused, granted, reading}
+use Rattle.chip.specs.Answer.{of-kind, with-number, with-address, with-place, with-byte}
 use Rattle.chip.specs.Access.{writes, match-at, translate-at, translate}
 use Rattle.chip.specs.Transfer.{transfer}
 use Rattle.chip.specs.Load.{collision, load-at, load}
@@ -29,7 +30,7 @@ use Rattle.chip.specs.declared.register.Register.{Register}
 use Rattle.chip.specs.declared.register.Register.the-variants as registers
 use Rattle.chip.specs.declared.register.Operation.the-variants as operation
 use Rattle.chip.specs.declared.answer.Refusal.{Refusal}
-use Rattle.chip.specs.declared.answer.Answer.the-variants.{Done, Byte}
+use Rattle.chip.specs.declared.answer.Answer.the-variants.{Byte}
 use Rattle.chip.specs.declared.answer.Outcome.{Outcome}
 use Rattle.chip.specs.declared.answer.Values.{Values}
 use Rattle.chip.proofs.Checked.{refusal-told, either, none-of, outcome-law}
@@ -44,28 +45,39 @@ pub record Fit (v : Values) : Type 0 where
   pub byte : v .byte < 2 ^ 8
   pub address : v .address < 2 ^ 24
 
+-- an answer of a kind, and with more values, by name
+kind-fits : (kind : ℕ) → kind < 2 ^ 4 → Fit (of-kind kind)
+kind-fits kind h = record { number = lit< tt; kind = h; unit = lit< tt; descriptor = lit< tt; byte = lit< tt; address = lit< tt }
+
+number-fits : (r : Refusal) (v : Values) → Fit v → Fit (with-number (number r) v)
+number-fits r v f =
+    record { number = refusal-told r .1; kind = f .kind; unit = f .unit; descriptor = f .descriptor; byte = f .byte; address = f .address }
+
+address-fits : (address : ℕ) (v : Values) → address < 2 ^ 24 → Fit v → Fit (with-address address v)
+address-fits address v h f =
+    record { number = f .number; kind = f .kind; unit = f .unit; descriptor = f .descriptor; byte = f .byte; address = h }
+
+place-fits : (i : ℕ) (win : Bool) (v : Values) → i < 192 → Fit v → Fit (with-place (i / 32) (i % 32) win v)
+place-fits i win v h f =
+    record { number = f .number; kind = f .kind; unit = omega arith; descriptor = omega arith; byte = f .byte; address = f .address }
+
+byte-fits : (byte : ℕ) (v : Values) → byte < 2 ^ 8 → Fit v → Fit (with-byte byte v)
+byte-fits byte v h f =
+    record { number = f .number; kind = f .kind; unit = f .unit; descriptor = f .descriptor; byte = h; address = f .address }
+
 abbrev Fits : Outcome → Type 0
 Fits o = Fit (values (o .answer))
 
 -- 4.5.3: an access
 translate-fits : (f : Found) (cycle : Cycle) (page number offset : ℕ) (s : System) → offset < 2 ^ 8
-    → ((i : ℕ) → f ≡ At i → i < 32 * present s) → Fits (translate-at f cycle page number offset s)
+    → ((i : ℕ) → f ≡ At i → i < 192) → Fits (translate-at f cycle page number offset s)
 unfolding translate-at match-at granted
-translate-fits Nowhere cycle page number offset s o h =
-    record { number = lit< tt; kind = lit< tt; unit = lit< tt; descriptor = lit< tt; byte = lit< tt; address = lit< tt }
+translate-fits Nowhere cycle page number offset s o h = kind-fits undefined (lit< tt)
 translate-fits (At i) cycle page number offset s o h =
-    let inside = h i refl in
     let d = descriptor s i in
     either Fits (writes cycle && protected d)
-    (λ e. record { number = lit< tt; kind = lit< tt; unit = omega arith; descriptor = omega arith; byte = lit< tt; address = lit< tt })
-    (λ e. record {
-      number = lit< tt;
-      kind = lit< tt;
-      unit = omega arith;
-      descriptor = omega arith;
-      byte = lit< tt;
-      address = omega (arith, gate-fits 16 (d .lam) page (d .pba));
-    })
+    (λ e. place-fits i true _ (h i refl) (kind-fits violating (lit< tt)))
+    (λ e. address-fits _ _ (omega (arith, gate-fits 16 (d .lam) page (d .pba))) (place-fits i (protected d) _ (h i refl) (kind-fits mapped (lit< tt))))
 
 -- 4.6.1: the byte of each register
 idp-fits : (f : Found) → number-of f < 2 ^ 8
@@ -100,32 +112,19 @@ read-fits registers.DirectTranslation m s c h = result-fits _ _ _
 read-fits registers.LoadDescriptor m s c h = load-fits _ _ _
 read-fits registers.Null m s c h = lit< tt
 
-byte-fits : (b : ℕ) → b < 2 ^ 8 → Fit (values (Byte b))
-byte-fits b h = record { number = lit< tt; kind = lit< tt; unit = lit< tt; descriptor = lit< tt; byte = h; address = lit< tt }
-
-done-fits : Fit (values Done)
-done-fits = record { number = lit< tt; kind = lit< tt; unit = lit< tt; descriptor = lit< tt; byte = lit< tt; address = lit< tt }
-
 pub performed-fit : (c : Call) (s : System) → Clean s → Fit (values (performed c s .answer))
 unfolding refused granted translate operate
-performed-fit c s k = outcome-law c s Fits refusals (go c)
+performed-fit c s k = outcome-law c s Fits (λ r. number-fits r _ (kind-fits 0 (lit< tt))) (go c)
   where
-    refusals : (r : Refusal) → Fits (refused r s)
-    refusals r = record {
-      number = refusal-told r .1;
-      kind = lit< tt;
-      unit = lit< tt;
-      descriptor = lit< tt;
-      byte = lit< tt;
-      address = lit< tt;
-    }
+    read-byte : (byte : ℕ) → byte < 2 ^ 8 → Fit (values (Byte byte))
+    read-byte byte h = byte-fits byte _ h (kind-fits byte-read (lit< tt))
 
     go : (c : Call) → none-of (checks c s) → Fits (carried-out c s)
-    go (call.Start count selected) n = done-fits
-    go (call.Reset selected) n = done-fits
+    go (call.Start count selected) n = kind-fits done (lit< tt)
+    go (call.Reset selected) n = kind-fits done (lit< tt)
     go (call.Access code cycle address) n =
         translate-fits _ cycle _ _ _ s (omega arith) (λ i e. omega (arith, matching-found s _ _ i e .high))
     go (call.Register m address operation.Read) n =
-        byte-fits _ (read-fits (register-at address) m s k (counted-present m (s .shared .board .count) (n .0) (n .1 .0)))
-    go (call.Register m address (operation.Write value)) n = done-fits
-    go (call.Acknowledge m) n = byte-fits _ (k .shared .ivr)
+        read-byte _ (read-fits (register-at address) m s k (counted-present m (s .shared .board .count) (n .0) (n .1 .0)))
+    go (call.Register m address (operation.Write value)) n = kind-fits done (lit< tt)
+    go (call.Acknowledge m) n = read-byte _ (k .shared .ivr)

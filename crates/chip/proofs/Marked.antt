@@ -17,7 +17,7 @@ use Rattle.chip.specs.declared.system.System.{System}
 use Rattle.chip.specs.declared.reset.Selected.{Selected}
 use Rattle.chip.specs.declared.reset.Selected.the-variants as selected
 use Rattle.pieces.proofs.Stores.{stored}
-use Rattle.registers.proofs.Events.{Fewer, event-fewer}
+use Rattle.registers.proofs.Becomes.{Fewer, becomes-fewer}
 use Rattle.chip.proofs.Each.{each-related}
 use Rattle.chip.proofs.Steps.{Steps, stays, renewed, units, turned, global, one-unit, shared, status, loaded}
 
@@ -77,10 +77,10 @@ pub steps-agreed : {s t : System} → Steps s t → Agreed s → Agreed t
 unfolding Agreed with-shared with-descriptor
 steps-agreed stays a = a
 steps-agreed (renewed board selected few h) a = fresh-agreed board selected
-steps-agreed (units {t} f e k) a = units-agreed t f (λ m u. event-fewer (e m u)) (steps-agreed k a)
-steps-agreed (turned {t} reads f e k) a = units-agreed t _ (λ m u. event-fewer (e u)) (steps-agreed k a)
+steps-agreed (units {t} f e k) a = units-agreed t f (λ m u. becomes-fewer (e m u)) (steps-agreed k a)
+steps-agreed (turned {t} reads f e k) a = units-agreed t _ (λ m u. becomes-fewer (e u)) (steps-agreed k a)
 steps-agreed (global {t} i value h k) a = global-agreed t i value (steps-agreed k a)
-steps-agreed (one-unit {t} m u h e k) a = unit-agreed t m u (event-fewer e) (steps-agreed k a)
+steps-agreed (one-unit {t} m u h e k) a = unit-agreed t m u (becomes-fewer e) (steps-agreed k a)
 steps-agreed (shared h e keep k) a = rw e (steps-agreed k a)
 steps-agreed (status i ssr h clear off k) a = steps-agreed k a
 steps-agreed (loaded i d h clear off k) a = steps-agreed k a

@@ -27,7 +27,7 @@ use Rattle.registers.specs.Unit.{NO, DT, LD, USA, WV, none, ac, word, write-ac,
 use Rattle.registers.specs.Shared.{entry, gsr-of, with-gsr}
 use Rattle.registers.specs.Clean.{Clean-shared}
 use Rattle.registers.proofs.Clean.{number-clean, none-clean, byte-clean, segment-clean, gsr-clean, ivr-clean, entry-clean}
-use Rattle.registers.proofs.Events.{Event, same, coded, told, aimed, taken, untold, paged, latched, event-clean}
+use Rattle.registers.proofs.Becomes.{Becomes, same, coded, told, aimed, taken, untold, paged, latched, becomes-clean}
 use Rattle.registers.specs.declared.unit.Unit.{Unit}
 use Rattle.registers.specs.declared.shared.Board.{Board}
 use Rattle.registers.specs.declared.shared.Shared.{Shared}
@@ -74,10 +74,10 @@ pub data Steps (s : System) : System → Type 0 where
   stays : Steps s s
   renewed : (board : Board) (selected : Selected) → board .count ≤ 6 → unselectable selected (board .count) ≡ false
       → Steps s (fresh board selected)
-  units : {t : System} (f : ℕ → Unit → Unit) → ((m : ℕ) (u : Unit) → Event u (f m u)) → Steps s t → Steps s (in-each f t)
-  turned : {t : System} (reads : Bool) (f : Unit → Unit) → ((u : Unit) → Event (with-rw u reads) (f u)) → Steps s t → Steps s (in-all f t)
+  units : {t : System} (f : ℕ → Unit → Unit) → ((m : ℕ) (u : Unit) → Becomes u (f m u)) → Steps s t → Steps s (in-each f t)
+  turned : {t : System} (reads : Bool) (f : Unit → Unit) → ((u : Unit) → Becomes (with-rw u reads) (f u)) → Steps s t → Steps s (in-all f t)
   global : {t : System} (i value : ℕ) → value < 2 ^ 8 → Steps s t → Steps s (in-all (write-ac i value) t)
-  one-unit : {t : System} (m : ℕ) (u : Unit) → m < present t → Event (unit t m) u → Steps s t → Steps s (with-unit t m u)
+  one-unit : {t : System} (m : ℕ) (u : Unit) → m < present t → Becomes (unit t m) u → Steps s t → Steps s (with-unit t m u)
   shared : {t : System} (h : Shared) → h .board ≡ t .shared .board → (Clean-shared (t .shared) → Clean-shared h) → Steps s t
       → Steps s (with-shared t h)
   status : {t : System} (i ssr : ℕ) → i < 32 * present t → clean ssr ≡ ssr → (bit ssr E ≡ true → enabled (descriptor t i) ≡ true)
@@ -88,12 +88,12 @@ pub data Steps (s : System) : System → Type 0 where
 pub steps-clean : {s t : System} → Steps s t → Clean s → Clean t
 steps-clean stays c = c
 steps-clean (renewed board selected few h) c = fresh-clean board selected few h
-steps-clean (units f e k) c = units-clean _ f (steps-clean k c) (λ m u. event-clean (e m u))
+steps-clean (units f e k) c = units-clean _ f (steps-clean k c) (λ m u. becomes-clean (e m u))
 steps-clean (turned reads f e k) c =
     units-clean _ _ (steps-clean k c)
-    (λ m u q. event-clean (e u) (record { bytes = q .bytes; ac = q .ac; dp = q .dp; rdp = q .rdp; l = q .l }))
+    (λ m u q. becomes-clean (e u) (record { bytes = q .bytes; ac = q .ac; dp = q .dp; rdp = q .rdp; l = q .l }))
 steps-clean (global i value h k) c = units-clean _ _ (steps-clean k c) (λ m u q. byte-clean u i _ q h)
-steps-clean (one-unit m u h e k) c = let q = steps-clean k c in unit-clean _ m u q h (event-clean e (q .units m h))
+steps-clean (one-unit m u h e k) c = let q = steps-clean k c in unit-clean _ m u q h (becomes-clean e (q .units m h))
 steps-clean (shared h e keep k) c = let q = steps-clean k c in shared-clean _ h q (keep (q .shared)) e
 steps-clean (status i ssr h clear off k) c = let q = steps-clean k c in descriptor-clean _ i _ q h (ssr-clean _ ssr (q .descriptors i h) clear)
 steps-clean (loaded i d h clear off k) c = descriptor-clean _ i d (steps-clean k c) h clear
@@ -182,7 +182,7 @@ no-collision d i t h k l n e f =
     (first-missed (λ k. collides d (descriptor t k)) 0 (32 * present t)
     (nowhere (in-system (collides d) t) (rw e at h)) k (omega arith) (omega arith))
 
-blamed : (f : Found) (u : Unit) → Event u (blame f u)
+blamed : (f : Found) (u : Unit) → Becomes u (blame f u)
 blamed (At i) u = told LD (i % 32) (lit< tt) (number-clean (i % 32) (omega arith)) same
 blamed Nowhere u = untold same
 

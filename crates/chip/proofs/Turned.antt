@@ -10,7 +10,7 @@ use native.Mathlib.Omega.{arith}
 use lib.ListN.{length, getD-replicate}
 use Rattle.registers.specs.Unit.{no-unit}
 use Rattle.pieces.proofs.Stores.{stored}
-use Rattle.registers.proofs.Events.{event-rw}
+use Rattle.registers.proofs.Becomes.{becomes-rw}
 use Rattle.registers.specs.declared.unit.Unit.{Unit}
 use Rattle.registers.specs.declared.shared.Board.{Board}
 use Rattle.chip.specs.System.{present, unit, with-units, with-shared, with-descriptor, in-each, in-all}
@@ -52,11 +52,11 @@ pub steps-turned : {s t : System} → Steps s t → Clean s → Turned s → Tur
 unfolding Turned with-units with-shared with-descriptor
 steps-turned stays c a = a
 steps-turned (renewed board selected few h) c a = fresh-turned board selected
-steps-turned (units {t} f e k) c a = units-turned t (steps-clean k c .places .0) f (λ m u. event-rw (e m u)) (steps-turned k c a)
-steps-turned (turned {t} reads f e k) c a = all-turned t (steps-clean k c .places .0) reads f (λ u. event-rw (e u))
+steps-turned (units {t} f e k) c a = units-turned t (steps-clean k c .places .0) f (λ m u. becomes-rw (e m u)) (steps-turned k c a)
+steps-turned (turned {t} reads f e k) c a = all-turned t (steps-clean k c .places .0) reads f (λ u. becomes-rw (e u))
 steps-turned (global {t} i value h k) c a = units-turned t (steps-clean k c .places .0) _ (λ m u. refl) (steps-turned k c a)
 steps-turned (one-unit {t} m u h e k) c a =
-    let same = stored (λ k (v : Unit). v .rw ≡ unit t k .rw) no-unit (t .units) m u (event-rw e) (λ k. refl) in
+    let same = stored (λ k (v : Unit). v .rw ≡ unit t k .rw) no-unit (t .units) m u (becomes-rw e) (λ k. refl) in
     λ i j hi hj. same i ∙ steps-turned k c a i j hi hj ∙ sym (same j)
 steps-turned (shared h e keep k) c a = rw e (steps-turned k c a)
 steps-turned (status i ssr h clear off k) c a = steps-turned k c a

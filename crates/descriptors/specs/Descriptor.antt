@@ -1,9 +1,10 @@
 -- A descriptor, what it matches and where it maps a page: handbook 3.1 and 4.5.3.
-use Prim.Native.Nat.{ℕ, _<_, _^_, _/_, _%_}
+use Prim.Native.Nat.{ℕ, _<_, _^_}
 use mathlib.Core.Bool.{Bool, true, _&&_}
-use mathlib.Core.List.{List, [], _∷_}
+use mathlib.Core.List.{List, [], _∷_, _++_}
 use mathlib.Core.Path.{_≡_}
 use Rattle.masks.specs.Fields.{bit, agree, clash, gate}
+use Rattle.pieces.specs.Pieces.{high-first}
 use Rattle.descriptors.specs.Status.{E, WP, IP, raise, disabled}
 use Rattle.descriptors.specs.declared.descriptor.Descriptor.{Descriptor}
 
@@ -65,9 +66,7 @@ disable d = with-ssr d (disabled (d .ssr))
 
 -- Table 3-1: the nine bytes, in accumulator order
 abbrev pub bytes : Descriptor → List ℕ
-bytes d =
-    d .lba / 256 ∷ d .lba % 256 ∷ d .lam / 256 ∷ d .lam % 256 ∷ d .pba / 256 ∷ d .pba % 256
-    ∷ d .asn ∷ d .ssr ∷ d .asm ∷ []
+bytes d = high-first (d .lba) ++ high-first (d .lam) ++ high-first (d .pba) ++ d .asn ∷ d .ssr ∷ d .asm ∷ []
 
 -- every byte zero
 abbrev pub zeros : Descriptor

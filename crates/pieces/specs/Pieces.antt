@@ -20,7 +20,10 @@ zeroed n b = let m = min n (length b) in replicate m 0 ++ drop m b
 abbrev pub join : (high low : ℕ) → ℕ
 join high low = 256 * high + low
 
--- the two bytes of a word, the low one first; and the word whose low byte is at place i
+-- the two bytes of a word, the high one first, and the low one first; and the word whose low byte is at place i
+abbrev pub high-first : (word : ℕ) → List ℕ
+high-first x = x / 256 ∷ x % 256 ∷ []
+
 abbrev pub low-first : (word : ℕ) → List ℕ
 low-first x = x % 256 ∷ x / 256 ∷ []
 

@@ -2,12 +2,12 @@
 --     held-l, held-rw     L and RW, from what a unit holds of its LSR
 --     gsr-back            the GSR
 -- Assumes nothing.
-use Prim.Native.Nat.{ℕ, _+_, _*_, _/_, _%_, _^_, _<_}
+use Prim.Native.Nat.{_+_, _*_, _/_, _%_, _^_, _<_}
 use mathlib.Core.Path.{_≡_, refl}
-use mathlib.Core.Bool.{Bool, true, false, cond}
+use mathlib.Core.Bool.{Bool, true, false}
 use native.Mathlib.Omega.{arith}
 use Rattle.masks.specs.Fields.{bit}
-use Rattle.registers.specs.Unit.{RW, none, rdp-of, l-of, rw-of, flag, held-lsr}
+use Rattle.registers.specs.Unit.{RW, l-of, rw-of, flag, held-lsr}
 use Rattle.registers.specs.Shared.{gsr-of, gsr-byte}
 use Rattle.registers.specs.declared.unit.Unit.{Unit}
 use Rattle.registers.specs.declared.shared.Gsr.{Gsr}

@@ -1,4 +1,4 @@
 pub mod Numbers
 pub mod Clean
-pub mod Events
+pub mod Becomes
 pub mod Back
