@@ -5,7 +5,7 @@
 --     segment-clean                  the segment in it is a descriptor in clean form
 --     gsr-clean, entry-clean, ivr-clean      the shared registers after a write
 -- Assumes nothing.
-use Prim.Native.Nat.{ℕ, zero, suc, _+_, _*_, _/_, _%_, _^_, _<_}
+use Prim.Native.Nat.{ℕ, zero, suc, _/_, _%_, _^_, _<_}
 use mathlib.Core.Path.{_≡_, refl, _∙_}
 use mathlib.Core.Bool.{Bool, true, false, cond}
 use mathlib.Core.List.{List, [], _∷_, map}
@@ -13,6 +13,7 @@ use native.Mathlib.Omega.{arith}
 use lib.Dec.{lit<}
 use lib.ListN.{getD, length-set}
 use Rattle.masks.specs.Fields.{bit}
+use Rattle.pieces.proofs.Bytes.{word-fits}
 use Rattle.descriptors.specs.Descriptor.{bytes}
 use Rattle.descriptors.specs.Clean.{Clean-descriptor}
 use Rattle.descriptors.proofs.Clean.{clean-twice, status-fits}
@@ -84,16 +85,13 @@ take-clean u d c q =
 
 pub segment-clean : (u : Unit) → Clean-unit u → Clean-descriptor (segment u)
 segment-clean u c = record {
-  lba = pair (c .ac 0) (c .ac 1);
-  lam = pair (c .ac 2) (c .ac 3);
-  pba = pair (c .ac 4) (c .ac 5);
+  lba = word-fits (c .ac 1) (c .ac 0);
+  lam = word-fits (c .ac 3) (c .ac 2);
+  pba = word-fits (c .ac 5) (c .ac 4);
   asn = c .ac 6;
   ssr = clean-twice (ac u 7);
   asm = c .ac 8;
 }
-  where
-    pair : {x y : ℕ} → x < 2 ^ 8 → y < 2 ^ 8 → 256 * x + y < 2 ^ 16
-    pair h k = omega arith
 
 -- ---- the shared registers
 
