@@ -29,7 +29,7 @@ abbrev pub Returned : (ps : List (PK 0)) (r : RK 0) → Out 0 ps r → (a : Dens
 Returned ps r Promise a x = (v : Lasts (endedOf 0 ps r) tt a) × Promise tt a x (atExit (endedOf 0 ps r) tt a v)
 
 -- A parameter of a function for C: lent bytes that it may write, `&mut [u8]`; lent bytes that it may only read, `&[u8]`; or a
--- number. Lent bytes come with a lifetime, by its place in the signature
+-- number. Lent bytes come with a lifetime of their own, by its place in the signature
 pub data Parameter (n : ℕ) : Type 0 where
   lent : (j : ℕ) → Within n j → Parameter n
   shown : (j : ℕ) → Within n j → Parameter n
