@@ -9,6 +9,7 @@
 --     performed-number     the outcome tells the table's number
 --     performed-granted    where that is 0, the call is carried out
 --     refused-system       where it is not, the system is as it was
+--     refused-alike        and what the call would do makes no difference
 -- Assumes nothing.
 use Prim.Native.Nat.{ℕ, _<_, _^_}
 use mathlib.Core.Path.{_≡_, refl}
@@ -107,3 +108,13 @@ module _ (c : Call) (s : System) where
   pub refused-system : first-of (numbered (checks c s)) ≢ 0 → performed c s .system ≡ s
   unfolding refused
   refused-system = checks-law c s (λ n (o : Outcome). n ≢ 0 → o .system ≡ s) (λ r n. refl) (λ k n. absurd (n refl))
+
+pub refused-alike : (cs : List (Refusal × Bool)) (s : System) (o p : Outcome) → first-of (numbered cs) ≢ 0 → checked cs s o ≡ checked cs s p
+refused-alike [] s o p = λ n. absurd (n refl)
+refused-alike (c ∷ cs) s o p = go (c .1) (refused-alike cs s o p)
+  where
+    go : (b : Bool) → (first-of (numbered cs) ≢ 0 → checked cs s o ≡ checked cs s p)
+        → cond b (number (c .0)) (first-of (numbered cs)) ≢ 0
+        → cond b (refused (c .0) s) (checked cs s o) ≡ cond b (refused (c .0) s) (checked cs s p)
+    go true later n = refl
+    go false later n = later n

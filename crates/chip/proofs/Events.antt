@@ -16,15 +16,16 @@ use Rattle.descriptors.specs.declared.descriptor.Descriptor.{Descriptor}
 use Rattle.registers.specs.Unit.{WV, report, latch, translated, with-rw, word, ac, segment, for-load, for-translation}
 use Rattle.registers.specs.Shared.{entry}
 use Rattle.registers.specs.declared.unit.Unit.{Unit}
+use Rattle.registers.specs.declared.shared.Shared.{Shared}
 use Rattle.chip.specs.System.{present, unit, descriptor, pointed, with-units, with-shared, with-descriptor, with-unit, in-all}
 use Rattle.chip.specs.Search.{found, in-system, in-unit, matching}
 use Rattle.chip.specs.Answer.{violating, undefined as undefined-kind, values, refused, granted}
-use Rattle.chip.specs.Access.{writes, fault, violation, undefined, match-at, translate-at, translate}
+use Rattle.chip.specs.Access.{reads, writes, read-half, fault, violation, undefined, match-at, translate-at, translate}
 use Rattle.chip.specs.Prepare.{prepare}
 use Rattle.chip.specs.Load.{blame, Collides-with, collision, load-at, load}
 use Rattle.chip.specs.Translation.{result-at, direct-translation}
 use Rattle.chip.specs.Call.{performed}
-use Rattle.chip.specs.Event.{status, leaves, Lowest}
+use Rattle.chip.specs.Event.{status, leaves, Left, Lowest}
 use Rattle.chip.specs.Event as event
 use Rattle.chip.specs.declared.system.System.{System}
 use Rattle.chip.specs.declared.access.Cycle.{Cycle}
@@ -39,7 +40,7 @@ use Rattle.chip.proofs.First.{first-found, first-missed}
 use Rattle.chip.proofs.Parts.{each-unit, unit-there, unit-elsewhere}
 use Rattle.chip.proofs.Once.{matching-found}
 use Rattle.chip.proofs.Steps.{prepare-places}
-use Rattle.chip.proofs.Loading.{prepared, load-is, off, collides-law}
+use Rattle.chip.proofs.Loading.{prepared, load-is, load-shared, off, collides-law}
 
 abbrev Six : System → Type 0
 Six s = length (s .units) ≡ 6
@@ -67,39 +68,37 @@ one-more g f s us m k h l = go (eqb k m) refl
 
 -- ---- 4.5.3: the faults
 
-fault-unit : (cycle : Cycle) (s : System) → Six s → (k : ℕ) → k < present s → unit (fault cycle s) k ≡ with-rw (unit s k) (not (writes cycle))
+fault-unit : (rw : Bool) (s : System) → Six s → (k : ℕ) → k < present s → unit (fault rw s) k ≡ with-rw (unit s k) rw
 unfolding fault with-shared
-fault-unit cycle s us k h = done (λ u. with-rw u (not (writes cycle))) s us k h
+fault-unit rw s us k h = done (λ u. with-rw u rw) s us k h
 
-fault-six : (cycle : Cycle) (s : System) → Six s → Six (fault cycle s)
+fault-six : (rw : Bool) (s : System) → Six s → Six (fault rw s)
 unfolding fault with-shared
-fault-six cycle s us = six _ s us
+fault-six rw s us = six _ s us
 
-violation-leaves : (cycle : Cycle) (page number m n : ℕ) (s : System) → Six s → m < present s → writes cycle ≡ true
-    → (k : ℕ) → k < present s → status (unit (violation cycle page number m n s) k) ≡ leaves (event.write-violation m n) k (unit s k .rw)
+violation-leaves : (page number m n : ℕ) (s : System) → Six s → m < present s
+    → (k : ℕ) → k < present s → status (unit (violation page number m n s) k) ≡ leaves (event.write-violation m n) k (unit s k .rw)
 unfolding violation fault with-shared with-units
-violation-leaves cycle page number m n s us h w k l =
-    let e : unit (fault cycle s) k ≡ with-rw (unit s k) false = fault-unit cycle s us k l ∙ rw w refl in
-    one-more _ (λ u. report WV n (latch page number u)) (fault cycle s) (fault-six cycle s us) m k h l ∙ rw e refl
+violation-leaves page number m n s us h k l =
+    one-more _ (λ u. report WV n (latch page number u)) (fault false s) (fault-six false s us) m k h l ∙ rw (fault-unit false s us k l) refl
 
 undefined-leaves : (cycle : Cycle) (page number : ℕ) (s : System) → Six s
-    → (k : ℕ) → k < present s → status (unit (undefined cycle page number s) k) ≡ leaves (event.undefined-access (not (writes cycle))) k (unit s k .rw)
+    → (k : ℕ) → k < present s → status (unit (undefined cycle page number s) k) ≡ leaves (event.undefined-access (reads cycle)) k (unit s k .rw)
 unfolding undefined fault with-shared with-units
 undefined-leaves cycle page number s us k h =
-    let latched = done (latch page number) (fault cycle s) (fault-six cycle s us) k h in
-    ap status (done _ (in-all (latch page number) (fault cycle s)) (six _ (fault cycle s) (fault-six cycle s us)) k h)
-    ∙ rw (latched, fault-unit cycle s us k h) refl
+    let t = fault (reads cycle) s in
+    let latched = done (latch page number) t (fault-six (reads cycle) s us) k h in
+    ap status (done _ (in-all (latch page number) t) (six _ t (fault-six (reads cycle) s us)) k h)
+    ∙ rw (latched, fault-unit (reads cycle) s us k h) refl
 
 -- a bus access, by what it answers
 pub record Faults (cycle : Cycle) (s : System) (o : Outcome) : Type 0 where
   pub violating : values (o .answer) .kind ≡ violating
-      → (k : ℕ) → k < present s
-      → status (unit (o .system) k) ≡ leaves (event.write-violation (values (o .answer) .unit) (values (o .answer) .descriptor)) k (unit s k .rw)
-  pub undefined : values (o .answer) .kind ≡ undefined-kind
-      → (k : ℕ) → k < present s → status (unit (o .system) k) ≡ leaves (event.undefined-access (not (writes cycle))) k (unit s k .rw)
+      → Left (event.write-violation (values (o .answer) .unit) (values (o .answer) .descriptor)) s (o .system)
+  pub undefined : values (o .answer) .kind ≡ undefined-kind → Left (event.undefined-access (reads cycle)) s (o .system)
 
 pub access-leaves : (code : ℕ) (cycle : Cycle) (address : ℕ) (s : System) → Six s → Faults cycle s (performed (call.Access code cycle address) s)
-unfolding translate translate-at match-at refused granted
+unfolding translate translate-at match-at read-half violation undefined fault refused granted with-descriptor with-shared with-units
 access-leaves code cycle address s us =
     outcome-law (call.Access code cycle address) s (Faults cycle s) (λ r. record { violating = λ e. absurd (omega arith); undefined = λ e. absurd (omega arith) })
     (λ n. go (matching page number s) refl)
@@ -112,15 +111,25 @@ access-leaves code cycle address s us =
 
     go : (f : Found) → matching page number s ≡ f → Faults cycle s (translate-at f cycle page number (address % 256) s)
     go (At i) e =
+        let there : i / 32 < present s = omega (arith, matching-found s page number i e .high) in
+        let faulting : (t : System) → t .units ≡ s .units → t .shared ≡ s .shared
+        → Left (event.write-violation (i / 32) (i % 32)) s (violation page number (i / 32) (i % 32) t) =
+        λ t u h. record {
+          units = λ k l. violation-leaves page number (i / 32) (i % 32) t (rw u us) (rw h there) k (rw h l);
+          gsr = rw h refl;
+        } in
         either (Faults cycle s) (writes cycle && protected (descriptor s i))
         (λ w. record {
           violating = λ v.
-              violation-leaves cycle page number (i / 32) (i % 32) s us (omega (arith, matching-found s page number i e .high))
-              (and-eq-true-iff (writes cycle) (protected (descriptor s i)) .0 w .0);
+              either (λ (t : System). Left (event.write-violation (i / 32) (i % 32)) s (violation page number (i / 32) (i % 32) t)) (reads cycle)
+              (λ r. faulting _ refl refl) (λ r. faulting s refl refl);
           undefined = λ v. absurd (omega arith);
         })
         (λ w. record { violating = λ v. absurd (omega arith); undefined = λ v. absurd (omega arith) })
-    go Nowhere e = record { violating = λ v. absurd (omega arith); undefined = λ v. undefined-leaves cycle page number s us }
+    go Nowhere e = record {
+      violating = λ v. absurd (omega arith);
+      undefined = λ v. record { units = undefined-leaves cycle page number s us; gsr = refl };
+    }
 
 -- ---- 4.6.3.2: a load
 
@@ -175,6 +184,11 @@ result-leaves (At i) page s us there k h =
     one-more _ (translated (physical-page (descriptor s i) page) (i % 32)) s us (i / 32) k (there i refl) h
 result-leaves Nowhere page s us there k h = ap status (done _ s us k h)
 
+result-shared : (f : Found) (page : ℕ) (s : System) → result-at f page s .system .shared ≡ s .shared
+unfolding result-at with-units
+result-shared (At i) page s = refl
+result-shared Nowhere page s = refl
+
 -- ---- both, by unit m's accumulator
 
 module _ (m : ℕ) (s : System) (h : m < present s) (us : length (s .units) ≡ 6) where
@@ -188,25 +202,22 @@ module _ (m : ℕ) (s : System) (h : m < present s) (us : length (s .units) ≡ 
         rw (load-is m s h us, ← p .rw k l)
         (load-at-leaves (segment (unit s m)) (pointed m s) (prepare for-load m s) (p .six) k (rw (prepare-places for-load m s .1) l))
 
-  pub granted-leaves : load m s .byte ≢ 0xFF
-      → (k : ℕ) → k < present s → status (unit (load m s .system) k) ≡ leaves event.load-granted k (unit s k .rw)
-  granted-leaves n k l = loads k l .0 n
+  pub granted-leaves : length (s .descriptors) ≡ 192 → load m s .byte ≢ 0xFF → Left event.load-granted s (load m s .system)
+  granted-leaves ds n = record { units = λ k l. loads k l .0 n; gsr = ap (λ (h : Shared). h .gsr) (load-shared m s h us ds) }
 
   pub refused-leaves : length (s .descriptors) ≡ 192 → load m s .byte ≡ 0xFF
-      → (lowest : ℕ → Found) × ((k : ℕ) → Lowest (segment (unit s m)) (pointed m s) k s (lowest k))
-      × ((k : ℕ) → k < present s → status (unit (load m s .system) k) ≡ leaves (event.load-refused lowest) k (unit s k .rw))
+      → (lowest : ℕ → Found) × ((k : ℕ) → Lowest (segment (unit s m)) (pointed m s) k s (lowest k)) × Left (event.load-refused lowest) s (load m s .system)
   refused-leaves ds e =
       let p = prepare for-load m s in
       let same = prepare-places for-load m s .0 in (
         lowest (segment (unit s m)) (pointed m s) p,
         λ k. lowest-same (segment (unit s m)) (pointed m s) k s p same (lowest (segment (unit s m)) (pointed m s) p k) (lowest-law (segment (unit s m)) (pointed m s) p (rw same (omega arith)) (loads m h .1 e .0) k),
-        λ k l. loads k l .1 e .1,
+        record { units = λ k l. loads k l .1 e .1; gsr = ap (λ (h : Shared). h .gsr) (load-shared m s h us ds) },
       )
 
-  pub translation-leaves : (k : ℕ) → k < present s
-      → status (unit (direct-translation m s .system) k) ≡ leaves (event.translation (matching (word (unit s m) 0) (ac (unit s m) 6) s)) k (unit s k .rw)
+  pub translation-leaves : Left (event.translation (matching (word (unit s m) 0) (ac (unit s m) 6) s)) s (direct-translation m s .system)
   unfolding direct-translation
-  translation-leaves k l =
+  translation-leaves =
       let t = prepare for-translation m s in
       let same = prepare-places for-translation m s in
       let p = prepared for-translation m s h us in
@@ -215,6 +226,10 @@ module _ (m : ℕ) (s : System) (h : m < present s) (us : length (s .units) ≡ 
       let e : matching (word (unit t m) 0) (ac (unit t m) 6) t ≡ f = rw (values 0, values 1, values 6, same .0, same .1) refl in
       let there : (i : ℕ) → f ≡ At i → i / 32 < present t =
       λ i q. rw (same .1) (omega (arith, matching-found s (word (unit s m) 0) (ac (unit s m) 6) i q .high)) in
-      ap (λ (f : Found). status (unit (result-at f (word (unit t m) 0) t .system) k)) e
-      ∙ result-leaves f (word (unit t m) 0) t (p .six) there k (rw (same .1) l)
-      ∙ ap (leaves (event.translation f) k) (p .rw k l)
+      record {
+        units = λ k l.
+            ap (λ (f : Found). status (unit (result-at f (word (unit t m) 0) t .system) k)) e
+            ∙ result-leaves f (word (unit t m) 0) t (p .six) there k (rw (same .1) l)
+            ∙ ap (leaves (event.translation f) k) (p .rw k l);
+        gsr = ap (λ (h : Shared). h .gsr) (result-shared _ (word (unit t m) 0) t ∙ same .1);
+      }

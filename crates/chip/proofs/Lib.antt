@@ -14,5 +14,7 @@ pub mod Invariants
 pub mod Still
 pub mod Loading
 pub mod Events
+pub mod Segments
+pub mod Halves
 pub mod Fit
 pub mod Cases

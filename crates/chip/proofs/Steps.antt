@@ -35,7 +35,7 @@ use Rattle.chip.specs.System.{present, unit, descriptor, pointed, with-u
 use Rattle.chip.specs.Search.{matching, in-system, in-unit}
 use Rattle.chip.specs.Answer.{granted}
 use Rattle.chip.specs.Reset.{fresh, unselectable}
-use Rattle.chip.specs.Access.{writes, touched, fault, violation, undefined, match-at, translate-at, translate}
+use Rattle.chip.specs.Access.{reads, writes, touched, touch, read-half, fault, violation, undefined, match-at, translate-at, translate}
 use Rattle.chip.specs.Transfer.{transfer, write-status}
 use Rattle.chip.specs.Prepare.{inconsistent, send, send-all, prepare}
 use Rattle.chip.specs.Load.{blame, collision, load-at, load}
@@ -48,7 +48,7 @@ use Rattle.chip.specs.declared.reset.Selected.{Selected}
 use Rattle.chip.specs.declared.search.Found.{Found}
 use Rattle.chip.specs.declared.search.Found.the-variants.{At, Nowhere}
 use Rattle.chip.specs.declared.access.Cycle.{Cycle}
-use Rattle.chip.specs.declared.access.Cycle.the-variants as cycle
+use Rattle.chip.specs.declared.access.Cycle.the-variants.{Read}
 use Rattle.chip.specs.declared.answer.Reading.{Reading}
 use Rattle.chip.specs.declared.answer.Outcome.{Outcome}
 use Rattle.chip.specs.declared.register.Register.{Register}
@@ -102,23 +102,27 @@ steps-clean (loaded i d h clear off k) c = descriptor-clean _ i d (steps-clean k
 
 -- 4.5.3
 touched-clean : (cycle : Cycle) (x : ℕ) → clean x ≡ x → bit x E ≡ true → clean (touched cycle x) ≡ touched cycle x
-touched-clean cycle.Read x c e = used-clean x c e
-touched-clean cycle.Write x c e = modified-clean (used x) (used-clean x c e)
+touched-clean cycle x c e =
+    let u = used-clean x c e in
+    either (λ y. clean y ≡ y) (writes cycle) (λ w. modified-clean (used x) u) (λ w. u)
 
-fault-steps : (cycle : Cycle) (s : System) → Steps s (fault cycle s)
+touch-steps : (cycle : Cycle) (i : ℕ) (s : System) → Clean s → i < 32 * present s → enabled (descriptor s i) ≡ true → Steps s (touch cycle i s)
+touch-steps cycle i s c h e = status i _ h (touched-clean cycle (descriptor s i .ssr) (c .descriptors i h .ssr) e) (λ q. e) stays
+
+fault-steps : (rw : Bool) {s t : System} → Steps s t → Steps s (fault rw t)
 unfolding fault
-fault-steps cycle s = shared _ refl (gsr-clean _ _) (turned (not (writes cycle)) _ (λ u. same) stays)
+fault-steps rw k = shared _ refl (gsr-clean _ _) (turned rw _ (λ u. same) k)
 
-violation-steps : (cycle : Cycle) (page number m n : ℕ) (s : System) → page < 2 ^ 16 → number < 2 ^ 8 → m < present s → n < 2 ^ 5
-    → Steps s (violation cycle page number m n s)
+violation-steps : (page number m n : ℕ) {s t : System} → page < 2 ^ 16 → number < 2 ^ 8 → m < present t → n < 2 ^ 5
+    → Steps s t → Steps s (violation page number m n t)
 unfolding violation fault with-units with-shared
-violation-steps cycle page number m n s h k l j =
+violation-steps page number m n h k l j before =
     one-unit m _ l (told WV n (lit< tt) (number-clean n j) (latched page number h k same))
-    (units _ (λ m u. untold same) (fault-steps cycle s))
+    (units _ (λ m u. untold same) (fault-steps false before))
 
 translate-steps : (code : ℕ) (cycle : Cycle) (address : ℕ) (s : System) → Clean s → address < 2 ^ 24
     → Steps s (translate code cycle address s .system)
-unfolding translate translate-at match-at undefined granted
+unfolding translate translate-at match-at read-half undefined granted with-descriptor
 translate-steps code cycle address s c h = go (matching page number s) refl
   where
     page : ℕ
@@ -135,13 +139,17 @@ translate-steps code cycle address s c h = go (matching page number s) refl
         let f = matching-found s page number i e in
         let inside : i < 32 * present s = omega (arith, f .high) in
         let d = descriptor s i in
-        let enabled = matches-enabled d page number (f .here) in
+        let used : (cycle : Cycle) → Steps s (touch cycle i s) =
+        λ cycle. touch-steps cycle i s c inside (matches-enabled d page number (f .here)) in
         either (λ (o : Outcome). Steps s (o .system)) (writes cycle && protected d)
-        (λ w. violation-steps cycle page number (i / 32) (i % 32) s fits (c .shared .entry code) (omega arith) (omega arith))
-        (λ w. status i _ inside (touched-clean cycle (d .ssr) (c .descriptors i inside .ssr) enabled) (λ q. enabled) stays)
+        (λ w.
+        violation-steps page number (i / 32) (i % 32) fits (c .shared .entry code)
+        (either (λ (t : System). i / 32 < present t) (reads cycle) (λ r. omega arith) (λ r. omega arith)) (omega arith)
+        (either (Steps s) (reads cycle) (λ r. used Read) (λ r. stays)))
+        (λ w. used cycle)
     go Nowhere e =
         units _ (λ m u. told USA none (lit< tt) none-clean same)
-        (units _ (λ m u. latched page number fits (c .shared .entry code) same) (fault-steps cycle s))
+        (units _ (λ m u. latched page number fits (c .shared .entry code) same) (fault-steps (reads cycle) stays))
 
 -- 4.6.2.4
 pointed-there : (m : ℕ) (s : System) → m < present s → pointed m s < 32 * present s

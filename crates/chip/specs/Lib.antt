@@ -8,6 +8,7 @@ pub mod Prepare
 pub mod Load
 pub mod Translation
 pub mod Event
+pub mod Segment
 pub mod Register
 pub mod Call
 pub mod Cases

@@ -1,7 +1,7 @@
 // A bus access: normal address translation, and the two faults (handbook 4.5.3).
 ghost use mathlib.Core.Path.{_≡_};
 ghost use Prim.Native.Nat.{_+_, _*_, _<_};
-ghost use Rattle.chip.specs.Access.{writes, touched, fault, violation, undefined, match-at, translate-at, translate};
+ghost use Rattle.chip.specs.Access.{reads, writes, touched, read-half, fault, violation, undefined, match-at, translate-at, translate};
 ghost use Rattle.chip.specs.Answer.{checked};
 ghost use Rattle.chip.specs.Call.{checks};
 ghost use Rattle.chip.specs.declared.call.Call.the-variants.{Access};
@@ -21,15 +21,28 @@ use registers::unit::Change;
 pub enum Cycle {
     Read,
     Write,
+    ReadModifyWrite,
 }
 
 impl Cycle {
+    // R/W as the cycle begins.
+    fn reads(self) -> bool
+        ensures { λ r. ⌜ r ≡ reads self ⌝ }
+    {
+        match self {
+            Cycle::Read => true,
+            Cycle::Write => false,
+            Cycle::ReadModifyWrite => true,
+        }
+    }
+
     fn writes(self) -> bool
         ensures { λ r. ⌜ r ≡ writes self ⌝ }
     {
         match self {
             Cycle::Read => false,
             Cycle::Write => true,
+            Cycle::ReadModifyWrite => true,
         }
     }
 
@@ -37,9 +50,11 @@ impl Cycle {
     fn touched(self, ssr: u8) -> u8
         ensures { λ r. ⌜ r ≡ touched self ssr ⌝ }
     {
-        match self {
-            Cycle::Read => status::used(ssr),
-            Cycle::Write => status::modified(status::used(ssr)),
+        let used = status::used(ssr);
+        if self.writes() {
+            status::modified(used)
+        } else {
+            used
         }
     }
 }
@@ -52,20 +67,20 @@ fn physical(page: u16, offset: u8) -> u32
 
 impl System {
     // 3.2.3, 3.2.4: what both faults do in every unit.
-    fn fault(self, cycle: Cycle) -> System
-        ensures { λ r. ⌜ r ≡ fault cycle self ⌝ }
+    fn fault(self, rw: bool) -> System
+        ensures { λ r. ⌜ r ≡ fault rw self ⌝ }
     {
-        let t = self.in_all(Change::Rw(!cycle.writes()));
+        let t = self.in_all(Change::Rw(rw));
         let shared = t.shared;
         t.with_shared(shared.with_gsr(shared.gsr.faulted()))
     }
 
     // 4.5.3.3 in the unit that matches, 4.5.3.6 in the others.
-    fn violation(self, cycle: Cycle, page: u16, number: u8, m: usize, n: u8) -> System
+    fn violation(self, page: u16, number: u8, m: usize, n: u8) -> System
         requires { ⌜ m < 6 ⌝ }
-        ensures { λ r. ⌜ r ≡ violation cycle page number m n self ⌝ }
+        ensures { λ r. ⌜ r ≡ violation page number m n self ⌝ }
     {
-        let t = self.fault(cycle)
+        let t = self.fault(false)
             .in_all(Change::Report(unit::NO, unit::NONE));
         t.with_unit(m, t.unit(m).latch(page, number).report(unit::WV, n))
     }
@@ -74,9 +89,21 @@ impl System {
     fn undefined(self, cycle: Cycle, page: u16, number: u8) -> System
         ensures { λ r. ⌜ r ≡ undefined cycle page number self ⌝ }
     {
-        self.fault(cycle)
+        self.fault(cycle.reads())
             .in_all(Change::Latch(page, number))
             .in_all(Change::Report(unit::USA, unit::NONE))
+    }
+
+    // 4.5.3.2, item 3: what is done before R/W falls.
+    fn read_half(mut self, i: usize, cycle: Cycle) -> System
+        requires { ⌜ i < 192 ⌝ }
+        ensures { λ r. ⌜ r ≡ read-half cycle i self ⌝ }
+    {
+        if cycle.reads() {
+            let d = self.descriptors[i];
+            self.descriptors[i] = d.with_ssr(Cycle::Read.touched(d.ssr));
+        }
+        self
     }
 
     // 4.5.3.2, or a violation.
@@ -94,7 +121,8 @@ impl System {
                 descriptor,
                 win: true,
             };
-            return self.violation(cycle, page, number, i / 32, descriptor)
+            return self.read_half(i, cycle)
+                .violation(page, number, i / 32, descriptor)
                 .granted(answer);
         }
         let answer = Answer::Mapped {

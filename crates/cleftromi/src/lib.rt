@@ -12,8 +12,10 @@ use chip::reset::Selected;
 // "None" for a unit.
 const NONE: u64 = 255;
 
-// The direction that reads: any other number writes.
+// The directions that do not write, and of a bus access the one that does both.
 const READ: u64 = 0;
+
+const MODIFY: u64 = 2;
 
 // The refusal of a block that is too short.
 const SHORT: u64 = 7;
@@ -33,6 +35,8 @@ fn cycle_by(direction: u64) -> Cycle
 {
     if direction == READ {
         Cycle::Read
+    } else if direction == MODIFY {
+        Cycle::ReadModifyWrite
     } else {
         Cycle::Write
     }

@@ -15,14 +15,14 @@ use Rattle.chip.specs.declared.reset.Selected.the-variants as selected
 use Rattle.lines.specs.declared.line.Line.{Line}
 use Rattle.lines.specs.declared.line.Line.the-variants.{Called, Bad}
 
--- A form has a letter for each byte of its line: n for a decimal digit, m for one or `-`, h for a hex digit, r for `R` or `W`; any
--- other byte stands for itself
+-- A form has a letter for each byte of its line: n for a decimal digit, m for one or `-`, h for a hex digit, r for `R`, `W` or
+-- `M`; any other byte stands for itself
 abbrev pub fits-at : (form c : ℕ) → Bool
 fits-at form c =
     cond (eqb form (byte "n")) (decimal c)
     (cond (eqb form (byte "m")) (decimal c || eqb c (byte "-"))
     (cond (eqb form (byte "h")) (hex c)
-    (cond (eqb form (byte "r")) (eqb c (byte "R") || eqb c (byte "W"))
+    (cond (eqb form (byte "r")) (eqb c (byte "R") || eqb c (byte "W") || eqb c (byte "M"))
     (eqb c form))))
 
 -- a line has a form if it is as long and each byte fits
@@ -62,7 +62,7 @@ abbrev pub unit : (c : ℕ) → Selected
 unit c = cond (eqb c (byte "-")) selected.Nobody (selected.Unit (digit c))
 
 abbrev pub direction : (c : ℕ) → Cycle
-direction c = cond (eqb c (byte "R")) cycle.Read cycle.Write
+direction c = cond (eqb c (byte "R")) cycle.Read (cond (eqb c (byte "M")) cycle.ReadModifyWrite cycle.Write)
 
 -- what a line of each form asks for
 abbrev pub start-of : (line : List ℕ) → Line

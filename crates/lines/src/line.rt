@@ -21,7 +21,10 @@ fn fits_at(form: u8, c: u8) -> bool
         b'n' => digits::decimal(c),
         b'm' => digits::decimal(c) || c == b'-',
         b'h' => digits::hex(c),
-        b'r' => c == b'R' || c == b'W',
+        b'r' => match c {
+            b'R' | b'W' | b'M' => true,
+            _ => false,
+        },
         _ => c == form,
     }
 }
@@ -70,7 +73,13 @@ fn unit(c: u8) -> Selected
 fn direction(c: u8) -> Cycle
     ensures { λ r. ⌜ r ≡ direction c ⌝ }
 {
-    if c == b'R' { Cycle::Read } else { Cycle::Write }
+    if c == b'R' {
+        Cycle::Read
+    } else if c == b'M' {
+        Cycle::ReadModifyWrite
+    } else {
+        Cycle::Write
+    }
 }
 
 // One function for each form: what a line of that form asks for.

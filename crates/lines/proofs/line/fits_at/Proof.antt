@@ -1,5 +1,11 @@
 -- `fits_at` meets its contract: by the letters of the forms. Assumes nothing.
-use borrow.Author.Tests.{eq-eqb, ne-eqb}
+use Prim.Native.Nat.{ℕ}
+use mathlib.Core.Path.{_≡_, refl}
+use mathlib.Core.Logic.{_⊎_, ⊎-elim, inl, inr}
+use mathlib.Core.Bool.{true, _||_}
+use lib.Dec.{eqb}
+use Rattle.text.specs.Ascii.{byte}
+use borrow.Author.Tests.{ne-eqb}
 use Rattle.masks.proofs.Free.{free}
 use Rattle.lines.proofs.line.fits_at.Statement.{statement}
 use Rattle.lines.proofs.line.fits_at.Tie as tie
@@ -16,11 +22,22 @@ returns-3 c = rw (c .before .before .match .keys2, ← c .before .decimal2 .ensu
 returns-4 : tie.Need-returns-4
 returns-4 c = rw (c .before .match .keys3) (c .hex .ensures)
 
+-- the letters of a direction, in the order of their codes
+letters : (c : ℕ) → (c ≡ byte "M") ⊎ ((c ≡ byte "R") ⊎ (c ≡ byte "W")) → true ≡ (eqb c (byte "R") || eqb c (byte "W") || eqb c (byte "M"))
+letters c = ⊎-elim (λ e. rw e refl) (⊎-elim (λ e. rw e refl) (λ e. rw e refl))
+
 returns-5 : tie.Need-returns-5
-returns-5 c = rw (c .before .match .keys4, eq-eqb _ _ (c .if2 .taken))
+returns-5 c = rw (c .before .match .keys4) (letters _ (c .match2 .keys1))
 
 returns-6 : tie.Need-returns-6
-returns-6 c = rw (c .before .match .keys4, ne-eqb _ _ (c .if2 .left))
+returns-6 c =
+    let other = c .match2 .rest .1 in
+    rw (
+      c .before .match .keys4,
+      ne-eqb _ _ (λ e. other (inr (inl e))),
+      ne-eqb _ _ (λ e. other (inr (inr e))),
+      ne-eqb _ _ (λ e. other (inl e)),
+    )
 
 returns-7 : tie.Need-returns-7
 returns-7 c =

@@ -12,8 +12,7 @@ returns c =
       c .before .with-gsr .ensures,
       c .before .before .faulted .ensures,
       c .before .before .before .before .in-all .ensures,
-      c .before .before .before .before .before .writes .ensures,
     )
 
 pub fault-spec : {M : Type 1} → statement M
-fault-spec = tie.close (tie.spec free free free free free returns)
+fault-spec = tie.close (tie.spec free free free free returns)

@@ -10,11 +10,12 @@ returns : tie.Need-returns
 unfolding match-at
 returns c =
     rw (
-      ← c .before .before .before .before .protected .ensures,
-      ← c .before .before .before .writes .ensures,
-      c .before .before .if1 .taken,
+      ← c .before .before .before .before .before .protected .ensures,
+      ← c .before .before .before .before .writes .ensures,
+      c .before .before .before .if1 .taken,
       c .granted .ensures,
       c .before .violation .ensures,
+      c .before .before .read-half .ensures,
     )
 
 returns-2 : tie.Need-returns-2
@@ -22,12 +23,12 @@ unfolding match-at with-descriptor
 returns-2 c =
     let tested = c .before .before .before .before .before in
     rw (
-      ← tested .before .before .protected .ensures,
-      ← tested .before .writes .ensures,
-      tested .if1 .left,
       c .granted2 .ensures,
       c .before .with-ssr .ensures,
       c .before .before .touched .ensures,
+      ← tested .before .before .protected .ensures,
+      ← tested .before .writes .ensures,
+      tested .if1 .left,
       c .before .before .before .physical .ensures,
       c .before .before .before .before .physical-page .ensures,
     )
@@ -36,5 +37,5 @@ pub match-at-spec : {M : Type 1} → statement M
 match-at-spec =
     tie.close
     (tie.spec
-    (λ c. search needs) (λ c. search needs) (λ c. search needs) (λ c. search needs) free free (λ c κs. search needs) free
-    returns free free free free (λ c. search needs) (λ c. search needs) free returns-2)
+    (λ c. search needs) (λ c. search needs) (λ c. search needs) (λ c. search needs) free free (λ c κs. search needs)
+    (λ c κs. search needs) free returns free free free free (λ c. search needs) (λ c. search needs) free returns-2)

@@ -1,0 +1,91 @@
+-- What a bus access leaves in the descriptors is what the table says (specs/Segment.antt).
+--     access-segments     by what it answers
+-- Assumes nothing.
+use Prim.Native.Nat.{ℕ, _+_, _*_, _/_, _%_, _<_}
+use mathlib.Core.Path.{_≡_, refl}
+use mathlib.Core.Bool.{Bool, true, false, _&&_, false≢true, and-eq-true-iff}
+use native.Mathlib.Omega.{arith}
+use lib.ListN.{length}
+use Rattle.descriptors.specs.Status.{used, Raised}
+use Rattle.descriptors.specs.Descriptor.{protected, with-ssr}
+use Rattle.descriptors.proofs.Raised.{used-raised, modified-raised, same-raised}
+use Rattle.registers.specs.Shared.{entry}
+use Rattle.chip.specs.System.{descriptor, with-units, with-shared, with-descriptor}
+use Rattle.chip.specs.Search.{matching}
+use Rattle.chip.specs.Answer.{mapped, violating, undefined as undefined-kind, values, refused, granted}
+use Rattle.chip.specs.Access.{writes, touched, touch, read-half, fault, violation, undefined, match-at, translate-at, translate}
+use Rattle.chip.specs.Call.{performed}
+use Rattle.chip.specs.Segment.{sets, Accessed}
+use Rattle.chip.specs.declared.system.System.{System}
+use Rattle.chip.specs.declared.access.Cycle.{Cycle}
+use Rattle.chip.specs.declared.access.Cycle.the-variants.{Read, Write, ReadModifyWrite}
+use Rattle.chip.specs.declared.search.Found.{Found}
+use Rattle.chip.specs.declared.search.Found.the-variants.{At, Nowhere}
+use Rattle.chip.specs.declared.answer.Outcome.{Outcome}
+use Rattle.chip.specs.declared.call.Call.the-variants as call
+use Rattle.chip.proofs.Checked.{either, outcome-law}
+use Rattle.chip.proofs.Parts.{descriptor-there, descriptor-elsewhere}
+use Rattle.chip.proofs.Once.{matching-found}
+
+touched-raised : (cycle : Cycle) (ssr : ℕ) → Raised (sets cycle false) ssr (touched cycle ssr)
+touched-raised Read ssr = used-raised ssr
+touched-raised Write ssr = modified-raised true ssr (used ssr) (used-raised ssr)
+touched-raised ReadModifyWrite ssr = modified-raised true ssr (used ssr) (used-raised ssr)
+
+module _ (i : ℕ) (s : System) (h : i < length (s .descriptors)) where
+  accessed : (set : Bool × Bool) (ssr : ℕ) → Raised set (descriptor s i .ssr) ssr
+      → Accessed set i s (with-descriptor s i (with-ssr (descriptor s i) ssr))
+  accessed set ssr r =
+      let there = descriptor-there s i (with-ssr (descriptor s i) ssr) h in
+      record { status = rw there r; alone = rw there refl; elsewhere = λ k n. descriptor-elsewhere s i k _ n }
+
+  touch-accessed : (cycle : Cycle) → Accessed (sets cycle false) i s (touch cycle i s)
+  touch-accessed cycle = accessed (sets cycle false) _ (touched-raised cycle (descriptor s i .ssr))
+
+  -- before a violation
+  half-accessed : (cycle : Cycle) → writes cycle ≡ true → Accessed (sets cycle true) i s (read-half cycle i s)
+  unfolding read-half
+  half-accessed Read w = absurd (false≢true w)
+  half-accessed Write w = record { status = same-raised (descriptor s i .ssr); alone = refl; elsewhere = λ k n. refl }
+  half-accessed ReadModifyWrite w = touch-accessed Read
+
+-- by what an access answers
+pub record Segments (cycle : Cycle) (s : System) (o : Outcome) : Type 0 where
+  pub mapped : values (o .answer) .kind ≡ mapped
+      → Accessed (sets cycle false) (32 * values (o .answer) .unit + values (o .answer) .descriptor) s (o .system)
+  pub violating : values (o .answer) .kind ≡ violating
+      → Accessed (sets cycle true) (32 * values (o .answer) .unit + values (o .answer) .descriptor) s (o .system)
+  pub undefined : values (o .answer) .kind ≡ undefined-kind → o .system .descriptors ≡ s .descriptors
+
+pub access-segments : (code : ℕ) (cycle : Cycle) (address : ℕ) (s : System) → length (s .descriptors) ≡ 192
+    → Segments cycle s (performed (call.Access code cycle address) s)
+unfolding translate translate-at match-at violation undefined fault refused granted with-shared with-units
+access-segments code cycle address s ds =
+    outcome-law (call.Access code cycle address) s (Segments cycle s)
+    (λ r. record { mapped = λ e. absurd (omega arith); violating = λ e. absurd (omega arith); undefined = λ e. absurd (omega arith) })
+    (λ n. go (matching page number s) refl)
+  where
+    page : ℕ
+    page = address / 256
+
+    number : ℕ
+    number = entry (s .shared) code
+
+    go : (f : Found) → matching page number s ≡ f → Segments cycle s (translate-at f cycle page number (address % 256) s)
+    go (At i) e =
+        let there : i < length (s .descriptors) = omega (arith, matching-found s page number i e .high) in
+        let place : 32 * (i / 32) + i % 32 ≡ i = omega arith in
+        either (Segments cycle s) (writes cycle && protected (descriptor s i))
+        (λ w.
+        let half = half-accessed i s there cycle (and-eq-true-iff (writes cycle) (protected (descriptor s i)) .0 w .0) in
+        record {
+          mapped = λ k. absurd (omega arith);
+          violating = λ k. rw place (record { status = half .status; alone = half .alone; elsewhere = half .elsewhere });
+          undefined = λ k. absurd (omega arith);
+        })
+        (λ w. record {
+          mapped = λ k. rw place (touch-accessed i s there cycle);
+          violating = λ k. absurd (omega arith);
+          undefined = λ k. absurd (omega arith);
+        })
+    go Nowhere e = record { mapped = λ k. absurd (omega arith); violating = λ k. absurd (omega arith); undefined = λ k. refl }
