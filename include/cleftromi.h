@@ -46,9 +46,12 @@ extern "C" {
 /* "No unit", for `selected` at a start or a reset. */
 #define CLEFTROMI_NONE 255
 
-/* The direction of an access.  Every number other than 0 writes. */
+/* The direction of an access.  CLEFTROMI_MODIFY is a read-modify-write, by a
+ * bus access alone; every other number writes, and in a register access 2 as
+ * well. */
 #define CLEFTROMI_READ 0
 #define CLEFTROMI_WRITE 1
+#define CLEFTROMI_MODIFY 2
 
 /* ------------------------------------------------------------------ */
 /* The calls                                                           */
@@ -74,16 +77,30 @@ uint64_t cleftromi_reset(uint8_t *state, size_t bytes, uint64_t selected);
  * function_code: FC3 to FC0, 0 to 15.  It selects the entry of the address
  * space table that gives the cycle its address space number.
  * address: the logical address, 0 to $FFFFFF.
- * A read-modify-write is given as a read and then a write.
+ * direction: CLEFTROMI_READ, CLEFTROMI_WRITE, or CLEFTROMI_MODIFY for the one
+ * cycle of a 68010's TAS, in which R/W falls after the read (4.5.3.2, item 3).
  *
  * Refusals: 7, 1, 4, 5.  Answer, one of
  *   CLEFTROMI_MAPPED     with unit, descriptor, address and WIN;
- *   CLEFTROMI_VIOLATION  with unit, descriptor and WIN: a write to a
- *                        write-protected segment;
+ *   CLEFTROMI_VIOLATION  with unit, descriptor and WIN: a write, or a
+ *                        read-modify-write, to a write-protected segment;
  *   CLEFTROMI_UNDEFINED  no enabled descriptor of any unit matches.
  * The last two are faults: read GSR, LSR, RDP, AC0, AC1 and AC6 for what the
  * chip noted of them, after a violation in the unit that the answer names, after
- * an undefined access in any unit. */
+ * an undefined access in any unit.  RW in the LSR is then 1 for an undefined
+ * read or read-modify-write, else 0.
+ *
+ * A read-modify-write is one call and at most one fault.  What becomes of the
+ * status of the segment that was matched (3.1.6):
+ *
+ *                       address given           violation
+ *   read                U, IP if I is set       -
+ *   write               U, M, IP if I is set    nothing
+ *   read-modify-write   U, M, IP if I is set    U, IP if I is set
+ *
+ * A host whose processor makes two cycles of it (a read, and then a write that
+ * it makes only if the read was answered by an address) may give both, as
+ * before: answer and state come out the same. */
 uint64_t cleftromi_access(uint8_t *state, size_t bytes, uint64_t function_code, uint64_t direction,
                           uint64_t address);
 
@@ -266,7 +283,7 @@ enum {
 enum {
     CLEFTROMI_SSR_E = 0x01,  /* enabled */
     CLEFTROMI_SSR_WP = 0x02, /* write protect */
-    CLEFTROMI_SSR_M = 0x04,  /* modified: set by a write */
+    CLEFTROMI_SSR_M = 0x04,  /* modified: set by a write or read-modify-write */
     CLEFTROMI_SSR_IP = 0x08, /* interrupt pending: set by an access if I is set */
     CLEFTROMI_SSR_I = 0x10,  /* interrupt control */
     CLEFTROMI_SSR_U = 0x80   /* used: set by an access */
@@ -285,7 +302,7 @@ enum {
     CLEFTROMI_LSR_LIP = 0x01, /* a descriptor of this unit has IP set */
     CLEFTROMI_LSR_GAL = 0x02, /* AC0 to 3, 6 and 8 were last written globally */
     CLEFTROMI_LSR_GAT = 0x04, /* AC0, 1 and 6 were last written globally */
-    CLEFTROMI_LSR_RW = 0x08,  /* the last fault was a read */
+    CLEFTROMI_LSR_RW = 0x08,  /* the last fault was a read, or began as one */
     CLEFTROMI_LSR_L = 0xF0,
     CLEFTROMI_L_NONE = 0x00,       /* this unit had no part in the last event */
     CLEFTROMI_L_TRANSLATED = 0x80, /* direct translation, found here */

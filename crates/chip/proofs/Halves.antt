@@ -5,14 +5,14 @@
 use Prim.Native.Nat.{ℕ, _/_, _%_, _*_, _<_, _^_}
 use mathlib.Core.Path.{_≡_, refl, sym, ap, _∙_}
 use mathlib.Core.Logic.{_≢_}
-use mathlib.Core.Bool.{Bool, true, false, cond}
+use mathlib.Core.Bool.{Bool, true, false}
 use mathlib.Core.List.{List}
 use native.Mathlib.Omega.{arith}
 use borrow.Author.Tests.{eqb-true, eqb-false}
 use lib.Dec.{lit<, eqb}
 use lib.ListN.{length}
 use lib.Seq.{set-set}
-use Rattle.descriptors.specs.Status.{WP, used, modified}
+use Rattle.descriptors.specs.Status.{WP, used}
 use Rattle.descriptors.specs.Descriptor.{protected, matches, with-ssr}
 use Rattle.descriptors.proofs.Enable.{used-e}
 use Rattle.descriptors.proofs.Clean.{status-fits}
@@ -22,8 +22,8 @@ use Rattle.registers.specs.Shared.{entry}
 use Rattle.chip.specs.System.{present, descriptor, with-descriptor}
 use Rattle.chip.specs.Search.{matching}
 use Rattle.chip.specs.Answer.{undefined as undefined-kind, values, first-of, numbered, granted}
-use Rattle.chip.specs.Access.{touch, read-half, violation, undefined, match-at, translate-at, translate}
-use Rattle.chip.specs.Call.{checks, carried-out, performed}
+use Rattle.chip.specs.Access.{touch, read-half, undefined, match-at, translate-at, translate}
+use Rattle.chip.specs.Call.{checks, performed}
 use Rattle.chip.specs.Clean.{Clean}
 use Rattle.chip.specs.declared.system.System.{System}
 use Rattle.chip.specs.declared.access.Cycle.{Cycle}

@@ -9,6 +9,7 @@
 --     granted-told       so it is where the answer tells no refusal
 --     granted-holds      then, if the call leaves a clean system, the block holds it
 --     granted-reads      so it does on any bytes
+--     in-a-row           what a call answers and leaves after one that was granted: as if the block held that one's system at once
 -- Assumes nothing.
 use Prim.Native.Nat.{ℕ, _<_, _≤_, _^_}
 use mathlib.Core.Path.{_≡_, refl, sym, ap, _∙_}
@@ -124,3 +125,24 @@ granted-holds c b g k =
 
 pub granted-reads : (c : Call) (b : List ℕ) → Granted c b → Bytes b → bus c < 2 ^ 8 → read (after c b) ≡ performed c (read b) .system
 granted-reads c b g h v = granted-holds c b g (performed-clean c (read b) (read-clean b h) v) .reads
+
+-- ---- one call after another
+
+-- a block that is written twice holds what was written last
+written-over : (b : List ℕ) (t u : System) → short b ≡ false → Clean t → written (written b t) u ≡ written b u
+unfolding written
+written-over b t u long c =
+    rw (long, form-holds t (drop size b) c .long)
+    (ap (λ (r : List ℕ). form u ++ r) (drop-at (form t) (drop size b) size (length-form t (c .shared .entries) (drop size b))))
+
+pub in-a-row : (c d : Call) (b : List ℕ) → Granted c b → let t = performed c (read b) .system in Clean t → let o = performed d t in
+    (answer d (after c b) ≡ number-of (values (o .answer)) (o .irq))
+    × (after d (after c b) ≡ cond (eqb (values (o .answer) .number) 0) (written b (o .system)) (after c b))
+in-a-row c d b g k =
+    let h = granted-holds c b g k in
+    let left : after c b ≡ written b (performed c (read b) .system) =
+    long-after c b (g .long) ∙ rw (eq-eqb _ _ (performed-number c (read b) ∙ g .none)) refl in
+    let over = ap (λ (e : List ℕ). written e (performed d (performed c (read b) .system) .system)) left ∙ written-over b _ _ (g .long) k in (
+      rw (long-answer d (after c b) (h .long), h .reads) refl,
+      rw (long-after d (after c b) (h .long), h .reads, over) refl,
+    )

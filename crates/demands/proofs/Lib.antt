@@ -6,4 +6,5 @@ pub mod Totality
 pub mod Stated
 pub mod Loads
 pub mod Neighbours
+pub mod Cycles
 pub mod Bench

@@ -1,54 +1,43 @@
 -- No stale neighbour: in every reached block, and after every event in any block of bytes. Assumes nothing.
 use Prim.Native.Nat.{ℕ}
-use mathlib.Core.Path.{_≡_, refl, sym, ap, _∙_}
+use mathlib.Core.Path.{_≡_, refl, sym, _∙_}
 use mathlib.Core.Logic.{_≢_}
-use mathlib.Core.Bool.{Bool, true, false, not, cond}
+use mathlib.Core.Bool.{Bool, true, false, _||_, cond}
 use mathlib.Core.List.{List}
 use native.Mathlib.Omega.{arith}
 use lib.Dec.{eqb}
 use Rattle.descriptors.proofs.Clean.{pending-enabled}
-use Rattle.chip.specs.System.{unit, descriptor}
-use Rattle.chip.specs.Access.{writes}
-use Rattle.chip.specs.Event.{leaves}
-use Rattle.chip.specs.Event as event
+use Rattle.chip.specs.System.{descriptor}
+use Rattle.chip.specs.Access.{reads}
 use Rattle.chip.specs.Call.{performed}
 use Rattle.chip.specs.declared.access.Cycle.the-variants as cycle
-use Rattle.chip.specs.declared.call.Call.{Call}
 use Rattle.chip.specs.declared.call.Call.the-variants as call
 use Rattle.chip.proofs.Marked.{Agreed}
 use Rattle.chip.proofs.Events.{Faults, access-leaves, granted-leaves, refused-leaves, translation-leaves}
 use Rattle.pieces.specs.Pieces.{Bytes}
-use Rattle.block.specs.Layout.{short, read}
+use Rattle.block.specs.Layout.{read}
 use Rattle.block.proofs.Tidy.{read-clean}
 use Rattle.cleftromi.specs.Interface.{cycle-by}
 use Rattle.cleftromi.specs.Fields.{kind}
-use Rattle.cleftromi.proofs.Blocks.{short-answer}
-use Rattle.demands.specs.Histories as histories
 use Rattle.demands.specs.Histories.{Access}
 use Rattle.demands.specs.Demands.{As-stated, No-stale-neighbour}
-use Rattle.demands.proofs.Calls.{made}
 use Rattle.demands.proofs.Histories.{reached-good}
-use Rattle.demands.proofs.Stated.{stated, loaded, translated}
+use Rattle.demands.proofs.Stated.{accessed, loaded, translated}
 
 -- an access that faults, through C
 faulted : {code direction address r : ℕ} {b e : List ℕ} → Bytes b → Access code direction address b r e → kind r ≢ 0
     → let o = performed (call.Access code (cycle-by direction) address) (read b) in
     As-stated o r e × Faults (cycle-by direction) (read b) o
-faulted {code} {direction} {address} {r} {b} {e} h k n = go (short b) refl
-  where
-    c : Call
-    c = call.Access code (cycle-by direction) address
+faulted {code} {direction} {address} {b = b} h k n =
+    (accessed h k n, access-leaves code (cycle-by direction) address (read b) (read-clean b h .places .0))
 
-    go : (t : Bool) → short b ≡ t → As-stated (performed c (read b)) r e × Faults (cycle-by direction) (read b) (performed c (read b))
-    go true q = absurd (n (ap kind (made (histories.access k) .answered ∙ short-answer c b q)))
-    go false q = (stated c h q (made (histories.access k)), access-leaves code (cycle-by direction) address (read b) (read-clean b h .places .0))
-
-reads-by : (direction : ℕ) → not (writes (cycle-by direction)) ≡ eqb direction 0
-reads-by direction = go (eqb direction 0)
+reads-by : (direction : ℕ) → reads (cycle-by direction) ≡ (eqb direction 0 || eqb direction 2)
+reads-by direction = go (eqb direction 0) (eqb direction 2)
   where
-    go : (b : Bool) → not (writes (cond b cycle.Read cycle.Write)) ≡ b
-    go true = refl
-    go false = refl
+    go : (b c : Bool) → reads (cond b cycle.Read (cond c cycle.ReadModifyWrite cycle.Write)) ≡ (b || c)
+    go true c = refl
+    go false true = refl
+    go false false = refl
 
 pub no-stale-neighbour : No-stale-neighbour
 unfolding Agreed
@@ -61,21 +50,19 @@ no-stale-neighbour = record {
         within = g .invariants .clean;
         form = g .form;
       };
-  violation = λ h a e k l.
+  violation = λ h a e.
       let f = faulted h a (λ z. omega arith) in
-      rw (f .0 .registers, f .0 .fields .unit, f .0 .fields .descriptor) (f .1 .violating (sym (f .0 .fields .kind) ∙ e) k l);
-  undefined = λ {direction = direction} {b = b} h a e k l.
+      rw (f .0 .registers, f .0 .fields .unit, f .0 .fields .descriptor) (f .1 .violating (sym (f .0 .fields .kind) ∙ e));
+  undefined = λ {direction = direction} h a e.
       let f = faulted h a (λ z. omega arith) in
-      rw (f .0 .registers)
-      (f .1 .undefined (sym (f .0 .fields .kind) ∙ e) k l
-      ∙ ap (λ (reads : Bool). leaves (event.undefined-access reads) k (unit (read b) k .rw)) (reads-by direction));
-  granted-load = λ {m} {b = b} h a granted n k l.
+      rw (f .0 .registers, ← reads-by direction) (f .1 .undefined (sym (f .0 .fields .kind) ∙ e));
+  granted-load = λ {m} {b = b} h a granted n.
       let o = loaded h a granted in
-      rw (o .reads) (granted-leaves m (read b) (o .there) (o .clean .places .0) (rw (o .byte) at n) k l);
+      rw (o .reads) (granted-leaves m (read b) (o .there) (o .clean .places .0) (o .clean .places .1) (rw (o .byte) at n));
   refused-load = λ {m} {b = b} h a granted e.
       let o = loaded h a granted in
       rw (o .reads) (refused-leaves m (read b) (o .there) (o .clean .places .0) (o .clean .places .1) (rw (o .byte) at e));
-  translation = λ {m} {b = b} h a granted k l.
+  translation = λ {m} {b = b} h a granted.
       let o = translated h a granted in
-      rw (o .reads) (translation-leaves m (read b) (o .there) (o .clean .places .0) k l);
+      rw (o .reads) (translation-leaves m (read b) (o .there) (o .clean .places .0));
 }

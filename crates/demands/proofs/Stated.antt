@@ -1,10 +1,12 @@
 -- Demand 2: a call answers the values, and leaves the registers, of its definition's outcome.
 --     told        the fields of its answer, on any bytes that are long enough
 --     stated      these, and what the block then reads as
---     loaded, translated      so of a load and a direct translation, which are register reads
+--     accessed    so of a bus access, by any answer that is no refusal
+--     loaded, translated      and of a load and a direct translation, which are register reads
 -- Assumes nothing.
 use Prim.Native.Nat.{ℕ, _<_}
 use mathlib.Core.Path.{_≡_, refl, sym, ap, _∙_}
+use mathlib.Core.Logic.{_≢_}
 use mathlib.Core.Bool.{Bool, true, false}
 use mathlib.Core.List.{List}
 use lib.Dec.{eqb}
@@ -27,14 +29,14 @@ use Rattle.chip.proofs.Fit.{performed-fit}
 use Rattle.pieces.specs.Pieces.{Bytes}
 use Rattle.block.specs.Layout.{short, read}
 use Rattle.block.proofs.Tidy.{read-clean}
-use Rattle.cleftromi.specs.Interface.{answer, after}
-use Rattle.cleftromi.specs.Fields.{Fields, refusal}
+use Rattle.cleftromi.specs.Interface.{cycle-by, answer, after}
+use Rattle.cleftromi.specs.Fields.{Fields, refusal, kind}
 use Rattle.cleftromi.specs.Fields as field
 use Rattle.cleftromi.proofs.Fields.{fields}
-use Rattle.cleftromi.proofs.Blocks.{long-answer, refusal-is, refused-alone, granted-told, granted-reads}
+use Rattle.cleftromi.proofs.Blocks.{long-answer, short-answer, refusal-is, refused-alone, granted-told, granted-reads}
 use Rattle.demands.specs.Demands.{As-stated, Demand-2, Load, Translation}
 use Rattle.demands.specs.Histories as histories
-use Rattle.demands.specs.Histories.{Register}
+use Rattle.demands.specs.Histories.{Access, Register}
 use Rattle.demands.proofs.Calls.{Made, made}
 
 pub told : (c : Call) (b : List ℕ) → Bytes b → short b ≡ false → Fields (values (performed c (read b) .answer)) (performed c (read b) .irq) (answer c b)
@@ -54,6 +56,19 @@ stated c {b} h long m = record {
 
 pub demand-2 : Demand-2
 demand-2 = record { stated = λ {c} h long k. stated c h long (made k) }
+
+-- ---- a bus access through C
+
+pub accessed : {code direction address r : ℕ} {b e : List ℕ} → Bytes b → Access code direction address b r e → kind r ≢ 0
+    → As-stated (performed (call.Access code (cycle-by direction) address) (read b)) r e
+accessed {code} {direction} {address} {r} {b} {e} h k n = go (short b) refl
+  where
+    c : Call
+    c = call.Access code (cycle-by direction) address
+
+    go : (t : Bool) → short b ≡ t → As-stated (performed c (read b)) r e
+    go true q = absurd (n (ap kind (made (histories.access k) .answered ∙ short-answer c b q)))
+    go false q = stated c h q (made (histories.access k))
 
 -- ---- a register read through C
 

@@ -2,7 +2,7 @@
 use Prim.Native.Nat.{ℕ, _*_, _/_, _^_, _<_}
 use mathlib.Core.Path.{_≡_}
 use mathlib.Core.Logic.{_≢_, _↔_}
-use mathlib.Core.Bool.{Bool, true, false}
+use mathlib.Core.Bool.{Bool, true, false, _||_}
 use mathlib.Core.List.{List}
 use lib.Dec.{eqb}
 use Rattle.masks.specs.Fields.{bit}
@@ -15,7 +15,7 @@ use Rattle.chip.specs.Answer.{values, violating, undefined, first-of}
 use Rattle.chip.specs.Call.{performed}
 use Rattle.chip.specs.Clean.{Clean}
 use Rattle.chip.specs.Load.{Collision}
-use Rattle.chip.specs.Event.{Event, status, leaves, Lowest}
+use Rattle.chip.specs.Event.{Event, Left, Lowest}
 use Rattle.chip.specs.Event as event
 use Rattle.chip.specs.declared.search.Found.{Found}
 use Rattle.chip.specs.declared.answer.Outcome.{Outcome}
@@ -106,9 +106,9 @@ pub record Sound (b : List ℕ) : Type 0 where
   pub within : Clean (read b)
   pub form : written b (read b) ≡ b
 
--- every unit's L4-L7, RDP and RW are those of the event: in the unit concerned, and in each that has no part in it
+-- every unit's L4-L7, RDP and RW are those of the event: in the unit concerned, and in each that has no part in it; and F and DF
 abbrev pub Leaves : Event → (before after : List ℕ) → Type 0
-Leaves e b after = (k : ℕ) → k < present (read b) → status (unit (read after) k) ≡ leaves e k (unit (read b) k .rw)
+Leaves e b after = Left e (read b) (read after)
 
 -- a direct translation is a register read of $3D
 abbrev pub Translation : (unit value : ℕ) → Step
@@ -122,7 +122,7 @@ pub record No-stale-neighbour : Type 0 where
       → Leaves (event.write-violation (field.unit answer) (field.descriptor answer)) b after
   pub undefined : {function-code direction address answer : ℕ} {b after : List ℕ} → Bytes b
       → Access function-code direction address b answer after → kind answer ≡ undefined
-      → Leaves (event.undefined-access (eqb direction 0)) b after
+      → Leaves (event.undefined-access (eqb direction 0 || eqb direction 2)) b after
   pub granted-load : {m value answer : ℕ} {b after : List ℕ} → Bytes b → Load m value b answer after → refusal answer ≡ 0
       → field.byte answer ≢ 0xFF → Leaves event.load-granted b after
   pub refused-load : {m value answer : ℕ} {b after : List ℕ} → Bytes b → Load m value b answer after → refusal answer ≡ 0

@@ -1,5 +1,4 @@
 -- `Cycle::touched` meets its contract. Assumes nothing.
-use mathlib.Core.Path.{sym, _∙_}
 use Rattle.masks.proofs.Free.{free}
 use Rattle.chip.proofs.access.Cycle.touched.Statement.{statement}
 use Rattle.chip.proofs.access.Cycle.touched.Tie as tie
