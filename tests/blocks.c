@@ -14,6 +14,7 @@ static pair both;
 static mix calls;
 static uint8_t block[LAYOUT_BYTES];
 static unsigned long refused, granted, mapped, kept_bad;
+static unsigned long modified[MODEL_UNDEFINED + 1]; /* read-modify-writes, by the kind of answer */
 
 /* ------------------------------------------------------------------ */
 /* Blocks                                                              */
@@ -67,8 +68,10 @@ static void written_form(void)
 
 static void damage(void)
 {
-    for (unsigned n = mix_below(&calls, 5); n > 0; n--)
-        block[mix_below(&calls, mix_below(&calls, 2) ? 1900 : LAYOUT_BYTES)] = (uint8_t)mix_random(&calls);
+    for (unsigned n = mix_below(&calls, 5); n > 0; n--) {
+        unsigned at = mix_below(&calls, mix_below(&calls, 2) ? 1900 : LAYOUT_BYTES);
+        block[at] = (uint8_t)mix_random(&calls);
+    }
 }
 
 static void make_block(void)
@@ -106,7 +109,8 @@ static call aimed_access(void)
         memset(block + 16, mix_number(&calls, d), 16);
         page = mix_page(&calls, d);
     }
-    call c = {CALL_ACCESS, {mix_below(&calls, 16), mix_below(&calls, 2), (uint64_t)page << 8 | 0x5A}, 0};
+    unsigned code = mix_below(&calls, 16);
+    call c = {CALL_ACCESS, {code, mix_direction(&calls), (uint64_t)page << 8 | 0x5A}, 0};
     return c;
 }
 
@@ -129,6 +133,7 @@ static bool compare(call c, unsigned long number, uint64_t seed)
     kept_bad += both.answer.refusal == 1;
     granted += both.answer.refusal == 0;
     mapped += both.answer.kind == MODEL_MAPPED;
+    modified[both.answer.kind] += c.name == CALL_ACCESS && c.number[1] == CLEFTROMI_MODIFY;
     return true;
 }
 
@@ -168,8 +173,13 @@ int main(int argc, char **argv)
     for (unsigned long i = 0; i < wanted; i++)
         if (!try_block(i, seed))
             return 1;
-    bool enough = wanted < 10000 || (refused > 100 && granted > 100 && mapped > 100 && kept_bad > 100);
-    printf("%lu blocks, %lu calls granted (%lu mapped), %lu refused (%lu for the count)%s\n", wanted, granted, mapped,
-           refused, kept_bad, enough ? ", all the same" : ", but some of these were seen too seldom");
+    bool enough = wanted < 10000 || (refused > 100 && granted > 100 && mapped > 100 && kept_bad > 100 &&
+                                     modified[MODEL_REFUSED] > 10 && modified[MODEL_MAPPED] > 100 &&
+                                     modified[MODEL_VIOLATION] > 100 && modified[MODEL_UNDEFINED] > 100);
+    printf("%lu blocks, %lu calls granted (%lu mapped), %lu refused (%lu for the count)", wanted, granted, mapped,
+           refused, kept_bad);
+    printf(", of read-modify-writes %lu mapped, %lu violations, %lu undefined, %lu refused%s\n",
+           modified[MODEL_MAPPED], modified[MODEL_VIOLATION], modified[MODEL_UNDEFINED], modified[MODEL_REFUSED],
+           enough ? ", all the same" : ", but some of these were seen too seldom");
     return enough ? 0 : 1;
 }

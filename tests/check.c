@@ -15,7 +15,7 @@ static void check(bool good, int line, const char *text)
     exit(1);
 }
 
-enum { READ = 0, WRITE = 1 };
+enum { READ = 0, WRITE = 1, MODIFY = MODEL_MODIFY };
 enum { AC0 = 0x20, AC1, AC2, AC3, AC4, AC5, AC6, AC7, AC8, DP = 0x29, IVR = 0x2B, GSR = 0x2D, LSR = 0x2F,
        SSR = 0x31, IDP = 0x39, RDP = 0x3B, DT = 0x3D, LOAD = 0x3F };
 
@@ -326,7 +326,7 @@ static void undefined(void)
         for (unsigned n = 0; n < 9; n++)
             CHECK(m.unit[k].mark[n] == (n != 0 && n != 1 && n != 6));
     }
-    CHECK(is_undefined(model_access(&m, 3, 2, 0xABCDEF), 0));
+    CHECK(is_undefined(model_access(&m, 3, WRITE, 0xABCDEF), 0));
     for (unsigned k = 0; k < 3; k++)
         CHECK(rd(k, LSR) == 0xA0 && rd(k, GSR) == 0xC0);
 
@@ -351,6 +351,248 @@ static void undefined(void)
     CHECK(rd(0, RDP) == 8 && rd(0, LSR) == 0xC0 && rd(2, RDP) == 0x80);
     CHECK(is_violation(model_access(&m, 3, WRITE, 0x100000), 2, 9, 0));
     CHECK(rd(0, RDP) == 0x80 && rd(0, LSR) == 0x00 && rd(2, RDP) == 9);
+}
+
+/* ------------------------------------------------------------------ */
+/* Read-modify-write (4.5.3.2, item 3; document 02, P1; ruling 12)     */
+/* ------------------------------------------------------------------ */
+
+/* Numbers that write in a bus access: 2 alone is a read-modify-write. */
+static const uint64_t writes[] = {1, 3, 4, 255, 256, 258, 0x10002, (uint64_t)1 << 32, ((uint64_t)1 << 32) + 2,
+                                  (uint64_t)1 << 63, ((uint64_t)1 << 63) + 2, UINT64_MAX};
+#define WRITES (sizeof writes / sizeof writes[0])
+
+/* U and M, and IP if I; nothing else of the state changes. */
+static void modify_free(void)
+{
+    start(1, 0);
+    model wanted = m;
+    wanted.unit[0].d[0].ssr = 0x85;
+    for (unsigned i = 0; i < 2; i++) {
+        CHECK(is_mapped(model_access(&m, 5, MODIFY, 0x001234), 0x001234, 0, 0, 0, 0));
+        CHECK(memcmp(&wanted, &m, sizeof m) == 0);
+    }
+    wr(0, SSR, 0x11); /* I; IE is clear */
+    CHECK(is_mapped(model_access(&m, 5, MODIFY, 0x001234), 0x001234, 0, 0, 0, 0));
+    CHECK(m.unit[0].d[0].ssr == 0x9D && rd(0, LSR) == 0x01);
+    wr(0, SSR, 0x11);
+    wr(0, GSR, 0x01);
+    CHECK(last_irq == 0);
+    CHECK(is_mapped(model_access(&m, 5, MODIFY, 0xFFFFFF), 0xFFFFFF, 0, 0, 0, 1));
+    CHECK(m.unit[0].d[0].ssr == 0x9D);
+
+    /* in the last of six units, after a fault: L, RDP, RW, accumulators and marks stay */
+    start(6, MODEL_NONE);
+    CHECK(load(5, 30, 0x4000, 0xC000, 0x8000, 0x07, 0x81, 0xFF) == 0x00);
+    CHECK(load(5, 29, 0x0000, 0xC000, 0x8000, 0x07, 0x01, 0xFF) == 0x00);
+    wr(0, 0x1E, 0x07);
+    CHECK(is_undefined(model_access(&m, 15, READ, 0x812345), 0));
+    wr(3, AC6, 0x77);
+    wanted = m;
+    wanted.unit[5].d[30].ssr = 0x85;
+    CHECK(is_mapped(model_access(&m, 15, MODIFY, 0x7ABCDE), 0xBABCDE, 5, 30, 0, 0));
+    CHECK(memcmp(&wanted, &m, sizeof m) == 0);
+}
+
+/* One fault, RW 1, and no write half: an undefined read. */
+static void modify_undefined(void)
+{
+    start(1, MODEL_NONE);
+    CHECK(is_undefined(model_access(&m, 3, MODIFY, 0xABCDEF), 0));
+    CHECK(rd(0, GSR) == 0x80 && rd(0, LSR) == 0xA8 && rd(0, RDP) == 0x80); /* not DF */
+    CHECK(rd(0, AC0) == 0xAB && rd(0, AC1) == 0xCD && rd(0, AC6) == 0x00);
+    CHECK(is_undefined(model_access(&m, 3, MODIFY, 0x123456), 0));
+    CHECK(rd(0, GSR) == 0xC0 && rd(0, LSR) == 0xA8 && rd(0, AC0) == 0x12);
+    wr(0, GSR, 0x41); /* F clear, DF and IE stay set */
+    CHECK(is_undefined(model_access(&m, 3, MODIFY, 0x123456), 0));
+    CHECK(rd(0, GSR) == 0xC1 && rd(0, LSR) == 0xA8);
+    wr(0, GSR, 0x01);
+    CHECK(is_undefined(model_access(&m, 3, MODIFY, 0x123456), 0));
+    CHECK(rd(0, GSR) == 0x81 && rd(0, LSR) == 0xA8);
+    CHECK(is_undefined(model_access(&m, 3, WRITE, 0x123456), 0));
+    CHECK(rd(0, GSR) == 0xC1 && rd(0, LSR) == 0xA0);
+    CHECK(is_undefined(model_access(&m, 3, MODIFY, 0x123456), 0));
+    CHECK(rd(0, GSR) == 0xC1 && rd(0, LSR) == 0xA8);
+
+    /* two units and six: in every unit, with IRQ as it stands */
+    for (unsigned count = 2; count <= 6; count += 4) {
+        start(count, 1);
+        CHECK(load(0, 4, 0x0000, 0xFF00, 0x0000, 0x55, 0x03, 0xFF) == 0x00);
+        wr(0, 0x06, 0x55);
+        CHECK(is_violation(model_access(&m, 3, WRITE, 0x001234), 0, 4, 0));
+        wr(1, GSR, 0x01);
+        wr(1, DP, 0);
+        wr(1, SSR, 0x19); /* I, IP, E: IRQ */
+        CHECK(last_irq == 1);
+        accumulate(0, 0x1111, 0x2222, 0x3333, 0x44, 0x66, 0x77);
+        model wanted = m;
+        CHECK(is_undefined(model_access(&m, 3, MODIFY, 0xABCDEF), 1));
+        wanted.gsr = 0x81;
+        for (unsigned k = 0; k < count; k++) {
+            model_unit *u = &wanted.unit[k];
+            u->lsr = 0xA8;
+            u->rdp = 0x80;
+            u->ac[0] = 0xAB;
+            u->ac[1] = 0xCD;
+            u->ac[6] = 0x55;
+            u->mark[0] = u->mark[1] = u->mark[6] = false;
+        }
+        CHECK(memcmp(&wanted, &m, sizeof m) == 0);
+        CHECK(rd(0, LSR) == 0xA8 && rd(1, LSR) == 0xA9 && last_irq == 1);
+    }
+}
+
+/* The read half sets U, and IP if I; then the violation, with RW 0. */
+static void modify_protected(void)
+{
+    start(3, 1);
+    wr(1, SSR, 0x03);
+    accumulate(2, 0x1111, 0x2222, 0x3333, 0x44, 0x55, 0x66);
+    wr(0, LSR, 0xFF);
+    model wanted = m;
+    CHECK(is_violation(model_access(&m, 0, MODIFY, 0x123456), 1, 0, 0));
+    wanted.gsr = 0x80; /* one fault */
+    wanted.unit[0].lsr = wanted.unit[2].lsr = 0x00;
+    wanted.unit[1].lsr = 0xC0;
+    wanted.unit[1].rdp = 0x00;
+    wanted.unit[1].ac[0] = 0x12;
+    wanted.unit[1].ac[1] = 0x34;
+    wanted.unit[1].ac[6] = 0x00;
+    wanted.unit[1].mark[0] = wanted.unit[1].mark[1] = wanted.unit[1].mark[6] = false;
+    wanted.unit[1].d[0].ssr = 0x83; /* U, and M stays */
+    CHECK(memcmp(&wanted, &m, sizeof m) == 0);
+    CHECK(rd(1, LSR) == 0xC0 && rd(0, LSR) == 0x06 && rd(2, LSR) == 0x06 && rd(0, RDP) == 0x80 && rd(2, RDP) == 0x80);
+    CHECK(is_violation(model_access(&m, 0, MODIFY, 0x123456), 1, 0, 0));
+    CHECK(rd(0, GSR) == 0xC0 && m.unit[1].d[0].ssr == 0x83);
+    wr(0, GSR, 0x40); /* F was clear: DF only stays */
+    CHECK(is_violation(model_access(&m, 0, MODIFY, 0x123456), 1, 0, 0));
+    CHECK(rd(0, GSR) == 0xC0);
+
+    /* RW was 1 from an undefined access: 0 in every unit */
+    wr(0, 0x02, 0x09);
+    CHECK(is_undefined(model_access(&m, 1, MODIFY, 0x654321), 0));
+    CHECK(rd(0, LSR) == 0xA8 && rd(1, LSR) == 0xA8 && rd(2, LSR) == 0xA8);
+    CHECK(is_violation(model_access(&m, 0, MODIFY, 0x123456), 1, 0, 0));
+    CHECK(rd(0, LSR) == 0x00 && rd(1, LSR) == 0xC0 && rd(2, LSR) == 0x00 && rd(0, AC0) == 0x65 && rd(1, AC0) == 0x12);
+}
+
+/* The status of a protected segment before a read-modify-write and after it. */
+static void modify_status(void)
+{
+    static const struct {
+        uint8_t before, after;
+    } rows[] = {
+        {0x03, 0x83}, {0x83, 0x83}, {0x07, 0x87}, {0x87, 0x87}, /* no I: U alone, M as it was */
+        {0x0B, 0x8B}, {0x8F, 0x8F},                             /* IP that was written stays */
+        {0x13, 0x9B}, {0x93, 0x9B}, {0x17, 0x9F}, {0x97, 0x9F}, /* I: U and IP */
+        {0x1B, 0x9B}, {0x9B, 0x9B}, {0x9F, 0x9F},
+    };
+    start(1, 0);
+    for (unsigned i = 0; i < sizeof rows / sizeof rows[0]; i++)
+        for (unsigned ie = 0; ie < 2; ie++) {
+            unsigned irq_before = ie && (rows[i].before & 0x08), irq_after = ie && (rows[i].after & 0x08);
+            wr(0, GSR, (uint8_t)ie);
+            wr(0, SSR, rows[i].before);
+            CHECK(last_irq == irq_before);
+            /* a plain write sets neither U nor M nor IP */
+            CHECK(is_violation(model_access(&m, 0, WRITE, 0x00FF00), 0, 0, irq_before));
+            CHECK(m.unit[0].d[0].ssr == rows[i].before);
+            /* IRQ as it stands after the call */
+            CHECK(is_violation(model_access(&m, 0, MODIFY, 0x00FF00), 0, 0, irq_after));
+            CHECK(m.unit[0].d[0].ssr == rows[i].after && m.unit[0].lsr == 0xC0);
+        }
+}
+
+/* Six units, one of which had the violation before; the others have none. */
+static void modify_among_six(void)
+{
+    start(6, MODEL_NONE);
+    CHECK(load(3, 17, 0x4000, 0xC000, 0x8000, 0x05, 0x13, 0xFF) == 0x00);
+    CHECK(load(2, 9, 0x0000, 0xC000, 0x8000, 0x05, 0x13, 0xFF) == 0x00);
+    wr(0, 0x04, 0x05);
+    CHECK(is_violation(model_access(&m, 2, WRITE, 0x001234), 2, 9, 0));
+    CHECK(rd(2, RDP) == 9 && rd(2, LSR) == 0xC0);
+    accumulate(5, 0x1111, 0x2222, 0x3333, 0x44, 0x55, 0x66);
+    CHECK(is_violation(model_access(&m, 2, MODIFY, 0x5ABCDE), 3, 17, 0));
+    CHECK(m.unit[3].d[17].ssr == 0x9B && m.unit[2].d[9].ssr == 0x13 && m.gsr == 0xC0);
+    for (unsigned k = 0; k < 6; k++) {
+        bool hit = k == 3;
+        CHECK(rd(k, LSR) == (hit ? 0xC1 : 0x06) && rd(k, RDP) == (hit ? 17 : 0x80));
+        CHECK(rd(k, AC0) == (hit ? 0x5A : 0x11) && rd(k, AC1) == (hit ? 0xBC : 0x11));
+        CHECK(rd(k, AC6) == (hit ? 0x05 : 0x44));
+        CHECK(rd(k, AC2) == 0x22 && rd(k, AC4) == 0x33 && rd(k, AC7) == 0x55 && rd(k, AC8) == 0x66);
+        for (unsigned n = 0; n < 9; n++)
+            CHECK(m.unit[k].mark[n] == (!hit || (n != 0 && n != 1 && n != 6)));
+    }
+}
+
+/* Every other number than 0 and 2 writes. */
+static void other_directions(void)
+{
+    for (unsigned i = 0; i < WRITES; i++) {
+        start(2, 1);
+        CHECK(is_mapped(model_access(&m, 0, writes[i], 0x123456), 0x123456, 1, 0, 0, 0));
+        CHECK(m.unit[1].d[0].ssr == 0x85);
+        wr(1, SSR, 0x13);
+        CHECK(is_violation(model_access(&m, 0, writes[i], 0x123456), 1, 0, 0));
+        CHECK(m.unit[1].d[0].ssr == 0x13);
+        wr(0, 0x00, 0x01);
+        CHECK(is_undefined(model_access(&m, 0, writes[i], 0x123456), 0));
+        CHECK(rd(0, LSR) == 0xA0 && rd(1, LSR) == 0xA0 && rd(0, GSR) == 0xC0);
+    }
+}
+
+/* For a register 2 is a number like the others: it writes. */
+static void modify_register(void)
+{
+    start(2, 1);
+    CHECK(model_register(&m, 0, IVR, MODIFY, 0x77).kind == MODEL_DONE && m.ivr == 0x77);
+    CHECK(model_register(&m, 0, AC7, MODIFY, 0x5A).kind == MODEL_DONE && m.unit[1].ac[7] == 0x5A && m.unit[1].mark[7]);
+    CHECK(model_register(&m, 1, SSR, MODIFY, 0x13).kind == MODEL_DONE && m.unit[1].d[0].ssr == 0x13);
+    CHECK(m.unit[1].ac[7] == 0x5A); /* no transfer */
+    CHECK(model_register(&m, 0, GSR, ((uint64_t)1 << 32) + 2, 0x01).kind == MODEL_DONE && m.gsr == 0x01);
+    CHECK(model_register(&m, 0, DP, 3, 0x04).kind == MODEL_DONE && m.unit[1].dp == 4);
+    model before = m; /* what can only be read is not written */
+    CHECK(model_register(&m, 1, LOAD, MODIFY, 0).kind == MODEL_DONE);
+    CHECK(model_register(&m, 1, DT, MODIFY, 0).kind == MODEL_DONE);
+    CHECK(model_register(&m, 1, RDP, MODIFY, 5).kind == MODEL_DONE);
+    CHECK(memcmp(&before, &m, sizeof m) == 0);
+}
+
+static bool same_answer(model_answer a, model_answer b)
+{
+    return a.refusal == b.refusal && a.kind == b.kind && a.irq == b.irq && a.win == b.win && a.unit == b.unit &&
+           a.descriptor == b.descriptor && a.byte == b.byte && a.address == b.address;
+}
+
+/* What 01 had in its place: a read, and then a write unless the read was
+ * undefined, leave and answer the same. */
+static void read_then_write(void)
+{
+    static const uint8_t statuses[] = {0x01, 0x03, 0x11, 0x13, 0x81, 0x83, 0x19, 0x1B, 0x00};
+    for (unsigned i = 0; i < sizeof statuses; i++)
+        for (unsigned gsr = 0; gsr < 256; gsr++) {
+            start(2, 0);
+            wr(0, GSR, (uint8_t)gsr);
+            wr(0, SSR, statuses[i]);
+            model once = m;
+            model_answer a = model_access(&m, 0, READ, 0x123456), b = model_access(&once, 0, MODIFY, 0x123456);
+            if (a.kind != MODEL_UNDEFINED)
+                a = model_access(&m, 0, WRITE, 0x123456);
+            CHECK(same_answer(a, b) && memcmp(&once, &m, sizeof m) == 0);
+        }
+}
+
+static void read_modify_write(void)
+{
+    modify_free();
+    modify_undefined();
+    modify_protected();
+    modify_status();
+    modify_among_six();
+    other_directions();
+    modify_register();
+    read_then_write();
 }
 
 static void transfer_marks(void)
@@ -683,6 +925,10 @@ static void refusals(void)
     CHECK(is_refused(model_register(&m, 1, 0x40, WRITE, 0), 3));
     CHECK(is_refused(model_access(&m, 16, READ, 0x1000000), 4)); /* 4 before 5 */
     CHECK(is_refused(model_access(&m, 0, READ, 0x1000000), 5));
+    CHECK(is_refused(model_access(&m, 16, MODIFY, 0x1000000), 4));
+    CHECK(is_refused(model_access(&m, 15, MODIFY, 0x1000000), 5));
+    CHECK(is_refused(model_register(&m, 2, 0x40, MODIFY, 0), 2));
+    CHECK(is_refused(model_register(&m, 1, 0x40, MODIFY, 0), 3));
     CHECK(is_refused(model_acknowledge(&m, 2), 2));
     CHECK(is_refused(model_acknowledge(&m, MODEL_NONE), 2));
     for (unsigned i = 0; i < sizeof wide / sizeof wide[0]; i++) {
@@ -692,9 +938,12 @@ static void refusals(void)
         CHECK(is_refused(model_register(&m, wide[i], 0x20, WRITE, 1), 2));
         CHECK(is_refused(model_register(&m, 0, wide[i], WRITE, 1), 3));
         CHECK(is_refused(model_access(&m, wide[i], READ, 0), 4));
+        CHECK(is_refused(model_access(&m, wide[i], MODIFY, 0), 4));
         CHECK(is_refused(model_acknowledge(&m, wide[i]), 2));
-        if (wide[i] > 0xFFFFFF)
+        if (wide[i] > 0xFFFFFF) {
             CHECK(is_refused(model_access(&m, 0, READ, wide[i]), 5));
+            CHECK(is_refused(model_access(&m, 0, MODIFY, wide[i]), 5));
+        }
     }
     still(&before);
 
@@ -711,6 +960,8 @@ static void refusals(void)
         before = m;
         CHECK(is_refused(model_reset(&m, 9), 1));
         CHECK(is_refused(model_access(&m, 99, READ, UINT64_MAX), 1));
+        CHECK(is_refused(model_access(&m, 99, MODIFY, UINT64_MAX), 1));
+        CHECK(is_refused(model_access(&m, 0, MODIFY, 0), 1));
         CHECK(is_refused(model_register(&m, 99, 99, WRITE, 1), 1));
         CHECK(is_refused(model_acknowledge(&m, 99), 1));
         still(&before);
@@ -738,6 +989,8 @@ static void unreachable(void)
     m.unit[0].d[31].ssr = 0x03;
     CHECK(is_violation(model_access(&m, 0, WRITE, 0x123456), 0, 31, 0));
     CHECK(rd(0, LSR) == 0xC0 && rd(1, LSR) == 0x00 && rd(1, RDP) == 0x80);
+    CHECK(is_violation(model_access(&m, 0, MODIFY, 0x123456), 0, 31, 0));
+    CHECK(m.unit[0].d[31].ssr == 0x83 && m.unit[1].d[7].ssr == 0x85 && m.unit[1].d[9].ssr == 0x03);
     wr(0, DP, 3);
     CHECK(rd(2, DT) == 0x00);
     CHECK(rd(0, DP) == 31 && rd(1, DP) == 3 && rd(2, DP) == 3 && rd(2, RDP) == 0x80);
@@ -838,16 +1091,19 @@ static bool good_state(void)
 
 static void random_calls(void)
 {
-    unsigned kinds[6] = {0}, loads_granted = 0, loads_refused = 0;
+    unsigned kinds[6] = {0}, modified[6] = {0}, loads_granted = 0, loads_refused = 0;
     start(3, 0);
     for (unsigned i = 0; i < 60000; i++) {
-        unsigned unit = rnd() % (m.count + (rnd() % 16 == 0)), what = rnd() % 16;
+        unsigned more = rnd() % 16 == 0, unit = rnd() % (m.count + more), what = rnd() % 16;
         model_answer a;
-        if (what == 0 && rnd() % 300 == 0)
-            a = model_start(&m, 1 + rnd() % 6, rnd() % 7);
-        else if (what < 5)
-            a = model_access(&m, rnd() % 16, rnd() % 2, rnd() & 0xFFFFFF);
-        else if (what == 5)
+        if (what == 0 && rnd() % 300 == 0) {
+            unsigned units = 1 + rnd() % 6;
+            a = model_start(&m, units, rnd() % 7);
+        } else if (what < 5) {
+            unsigned code = rnd() % 16, direction = rnd() % 4;
+            a = model_access(&m, code, direction, rnd() & 0xFFFFFF);
+            modified[a.kind] += direction == MODIFY;
+        } else if (what == 5)
             a = model_acknowledge(&m, unit);
         else if (what < 8) {
             a = model_register(&m, unit, LOAD, READ, 0);
@@ -857,7 +1113,8 @@ static void random_calls(void)
             uint8_t value = (uint8_t)(rnd() % 4 == 0 ? rnd() : sparse());
             if (rnd() % 4 == 0)
                 value |= 1;
-            a = model_register(&m, unit, (rnd() % 4 != 0 ? 0x20u : 0u) + rnd() % 0x20, rnd() % 4 != 0, value);
+            unsigned above = rnd() % 4 != 0 ? 0x20 : 0, address = above + rnd() % 0x20;
+            a = model_register(&m, unit, address, rnd() % 4, value);
         }
         CHECK(a.kind < 6);
         kinds[a.kind]++;
@@ -866,6 +1123,7 @@ static void random_calls(void)
     for (unsigned k = 0; k < 6; k++)
         CHECK(kinds[k] > 100);
     CHECK(loads_granted > 100 && loads_refused > 100);
+    CHECK(modified[MODEL_MAPPED] > 100 && modified[MODEL_VIOLATION] > 100 && modified[MODEL_UNDEFINED] > 100);
 }
 
 int main(void)
@@ -875,6 +1133,7 @@ int main(void)
     start_and_reset();
     violation();
     undefined();
+    read_modify_write();
     transfer_marks();
     direct_translation();
     loads();

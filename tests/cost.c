@@ -83,18 +83,31 @@ static void take_up(const char *path)
 /* Calling                                                             */
 /* ------------------------------------------------------------------ */
 
-/* The call, and the answer that it must have. */
+/* Protects the last descriptor of the last unit, which DP names. */
+static void protect(unsigned units)
+{
+    set(units - 1, CLEFTROMI_SSR, CLEFTROMI_SSR_E | CLEFTROMI_SSR_WP);
+}
+
+/* The call, and the answer that it must have.  What is to be set up first is set
+ * up in both states, and falls out of the difference of two runs. */
 static call operation(const char *name, unsigned units, model_answer *wanted)
 {
     call c = {CALL_ACCESS, {code, CLEFTROMI_READ, (uint64_t)last_segment(units) << 16 | 0x1234}, 0};
     model_answer mapped = {0, MODEL_MAPPED, 0, 0, units - 1, 31, 0, (last_segment(units) ^ 0xFF) << 16 | 0x1234};
+    model_answer violation = {0, MODEL_VIOLATION, 0, 1, units - 1, 31, 0, 0};
     model_answer plain = {0, 0, 0, 0, 0, 0, 0, 0};
     *wanted = plain;
-    if (strcmp(name, "access") == 0) {
+    if (strncmp(name, "modify", strlen("modify")) == 0)
+        c.number[1] = CLEFTROMI_MODIFY;
+    if (strcmp(name, "access") == 0 || strcmp(name, "modify") == 0) {
         *wanted = mapped;
-    } else if (strcmp(name, "undefined") == 0) {
+    } else if (strcmp(name, "undefined") == 0 || strcmp(name, "modify-undefined") == 0) {
         c.number[2] = 0xFFFFFF;
         wanted->kind = MODEL_UNDEFINED;
+    } else if (strcmp(name, "modify-protected") == 0) {
+        protect(units);
+        *wanted = violation;
     } else if (strcmp(name, "write") == 0) {
         call write = {CALL_REGISTER, {0, CLEFTROMI_IVR, CLEFTROMI_WRITE}, 0x40};
         c = write;

@@ -15,9 +15,19 @@
  *      them, and lends more or fewer of them, and all the rest holds;
  *   7  after a fault, a load and a direct translation L7 to L4, RDP and RW of
  *      every unit are those of this event (docs/PROVED.md, "What an event
- *      leaves"), which is worked out from the block before the call.
+ *      leaves"), which is worked out from the block before the call;
+ *   8  an access sets in the status of the segment that answers it what the table
+ *      "sets" below says for its kind of cycle; every other bit of it and every
+ *      other descriptor stay;
+ *   9  a fault is counted once: F is set then, DF exactly if DF or F was set
+ *      before, and IE stays; an access that is mapped leaves all three;
+ *  10  RW after a fault is 1 for an undefined read or read-modify-write, and 0
+ *      for an undefined write and for every violation;
+ *  11  a read-modify-write that is not undefined answers and leaves what a read
+ *      and then a write of the same address do, the answer being the write's;
+ *      an undefined one what the read does.
  *
- * 2, 3, 5, 6 and 7 are said of every block, and so is 4 but for the marks: they
+ * 2, 3 and 5 to 11 are said of every block, and so is 4 but for the marks: they
  * are checked on noise too, random bytes in which descriptors clash.
  *
  * Nothing is compared with the model.  Only mix, which plans the calls, sees
@@ -66,6 +76,8 @@ enum {
     SEEN_HIT_CLASH,
     SEEN_KEPT_MAPPED,
     SEEN_KEPT_VIOLATION,
+    SEEN_KEPT_MODIFY,
+    SEEN_KEPT_MODIFY_VIOLATION,
     SEEN_GIVEN,
     SEEN_MARKED,
     SEEN_MARKED_ONCE,
@@ -88,7 +100,8 @@ static const char *const seen_names[SEEN_END] = {
     "loads into enabled descriptors", "loads while another unit's accumulator differs",
     "granted loads into disabled descriptors with accesses that hit",
     "refused loads into disabled descriptors with accesses that hit",
-    "accesses that stayed mapped", "accesses that stayed violations", "undefined accesses that got an answer",
+    "accesses that stayed mapped", "accesses that stayed violations", "read-modify-writes that stayed mapped",
+    "read-modify-writes that stayed violations", "undefined accesses that got an answer",
     "bytes marked in two units", "bytes marked in one of two units", "descriptors with IP",
     "pairs compared", "pairs tried with every page and number",
     "calls lent more bytes than the call before", "calls lent fewer", "calls lent the whole room",
@@ -110,11 +123,30 @@ static void note(unsigned what, bool happened)
         seen_clashed[what] += happened;
 }
 
-/* The rows of the table of events; undefined accesses by their direction. */
-enum { VIOLATION, UNDEFINED_READ, UNDEFINED_WRITE, LOAD_REFUSED, LOAD_GRANTED, TRANSLATED, NOT_TRANSLATED, EVENTS };
+/* The kinds of cycle, and the answers of an access. */
+enum { READ, WRITE, MODIFY, CYCLES };
+enum { MAPPED, VIOLATED, UNDEFINED, ANSWERS };
+
+static const char *const cycle_names[CYCLES] = {"reads", "writes", "read-modify-writes"};
+static const char *const answer_names[ANSWERS] = {"mapped", "violations", "undefined"};
+
+/* The rows of the table of events; faults by the kind of cycle. */
+enum {
+    WRITE_VIOLATION,
+    MODIFY_VIOLATION,
+    UNDEFINED_READ,
+    UNDEFINED_WRITE,
+    UNDEFINED_MODIFY,
+    LOAD_REFUSED,
+    LOAD_GRANTED,
+    TRANSLATED,
+    NOT_TRANSLATED,
+    EVENTS
+};
 
 static const char *const event_names[EVENTS] = {
-    "violations", "undefined reads", "undefined writes", "refused loads", "granted loads", "direct translations",
+    "violations of writes", "violations of read-modify-writes", "undefined reads", "undefined writes",
+    "undefined read-modify-writes", "refused loads", "granted loads", "direct translations",
     "direct translations without a match",
 };
 
@@ -126,6 +158,19 @@ static const char *const noted_names[NOTED] = {"", "units with another L before"
                                                "with RW to be changed, or to be kept at 1"};
 
 static unsigned long events[2][EVENTS][NOTED]; /* in noise, and in reached blocks */
+
+/* Of each kind of cycle and answer how many, and what stood before: without
+ * these a bit that is set too much, or not set, would not show. */
+enum { ACCESSES, F_WAS_SET, NOTHING_WAS_SET, U_WAS_CLEAR, M_WAS_CLEAR, INTERRUPTS, STOOD };
+
+static const char *const stood_names[STOOD] = {
+    "accesses", "with F set before", "with neither F nor DF set", "with U clear", "with M clear",
+    "with I set and IP clear",
+};
+
+static unsigned long accesses[2][CYCLES][ANSWERS][STOOD];
+
+static unsigned long refused_modify[8]; /* read-modify-writes, by the refusal */
 
 /* Prints a count.  One that is zero is missing, the last of them is kept. */
 static void print_count(unsigned long count, const char *name, const char *after, const char **missing)
@@ -146,10 +191,36 @@ static void report_events(const char **missing)
         }
 }
 
+/* A read is never a violation, and an undefined access has no segment. */
+static void report_accesses(const char **missing)
+{
+    for (unsigned where = 0; where < 2; where++)
+        for (unsigned row = 0; row < CYCLES * ANSWERS; row++) {
+            unsigned cycle = row / ANSWERS, answer = row % ANSWERS;
+            unsigned end = answer == UNDEFINED ? U_WAS_CLEAR : STOOD;
+            if (cycle == READ && answer == VIOLATED)
+                continue;
+            printf("in %s, %s, %s: ", where ? "reached blocks" : "noise", cycle_names[cycle], answer_names[answer]);
+            for (unsigned i = 0; i < end; i++)
+                print_count(accesses[where][cycle][answer][i], stood_names[i], i + 1 < end ? ", " : "\n", missing);
+        }
+}
+
+static void report_refused(const char **missing)
+{
+    static const char *const names[8] = {0, "with 1", 0, 0, "with 4", "with 5", 0, "with 7"};
+    printf("read-modify-writes refused: ");
+    for (unsigned i = 0; i < 8; i++)
+        if (names[i] != NULL)
+            print_count(refused_modify[i], names[i], i < 7 ? ", " : "\n", missing);
+}
+
 static int report(void)
 {
     const char *missing = NULL;
     report_events(&missing);
+    report_accesses(&missing);
+    report_refused(&missing);
     printf("in noise with clashes: ");
     for (unsigned i = SEEN_LOAD; i <= SEEN_GIVEN; i++)
         print_count(seen_clashed[i], seen_names[i], i < SEEN_GIVEN ? ", " : "\n", &missing);
@@ -373,7 +444,7 @@ static call aimed_access(const uint8_t *block, segment s)
     unsigned page = page_under(s), code = mix_below(&calls, 16);
     for (unsigned i = 0; i < 16 && !agrees(block[16 + code], s.number, s.number_mask); i++)
         code = (code + 1) % 16;
-    unsigned direction = mix_below(&calls, 2);
+    uint64_t direction = mix_direction(&calls);
     unsigned offset = mix_below(&calls, 256);
     call c = {CALL_ACCESS, {code, direction, (uint64_t)page << 8 | offset}, 0};
     return c;
@@ -402,8 +473,11 @@ static bool access_kept(call c, const uint8_t *old, const uint8_t *block, unsign
 {
     uint64_t was = answer_on_copy(c, old), is = answer_on_copy(c, block);
     unsigned kind = cleftromi_kind(was);
+    bool modify = c.number[1] == CLEFTROMI_MODIFY;
     note(SEEN_KEPT_MAPPED, kind == CLEFTROMI_MAPPED);
     note(SEEN_KEPT_VIOLATION, kind == CLEFTROMI_VIOLATION);
+    note(SEEN_KEPT_MODIFY, modify && kind == CLEFTROMI_MAPPED);
+    note(SEEN_KEPT_MODIFY_VIOLATION, modify && kind == CLEFTROMI_VIOLATION);
     if (kind == CLEFTROMI_MAPPED || kind == CLEFTROMI_VIOLATION) {
         must(same_but_irq(c, was, is), "a load into a disabled descriptor changes what an access had");
         return true;
@@ -456,17 +530,17 @@ static void give_part(event *e, unsigned place, uint8_t l)
     e->rdp[place / 32] = (uint8_t)(place % 32);
 }
 
-static event undefined_event(const uint8_t *old, bool write)
+static event undefined_event(const uint8_t *old, unsigned cycle)
 {
-    event e = nobodys_event(old, write ? UNDEFINED_WRITE : UNDEFINED_READ);
+    event e = nobodys_event(old, UNDEFINED_READ + cycle);
     memset(e.l, CLEFTROMI_L_UNDEFINED, UNITS);
-    memset(e.rw, write ? 0 : CLEFTROMI_LSR_RW, UNITS);
+    memset(e.rw, cycle == WRITE ? 0 : CLEFTROMI_LSR_RW, UNITS);
     return e;
 }
 
-static event violation_event(const uint8_t *old, unsigned place)
+static event violation_event(const uint8_t *old, unsigned cycle, unsigned place)
 {
-    event e = nobodys_event(old, VIOLATION);
+    event e = nobodys_event(old, cycle == MODIFY ? MODIFY_VIOLATION : WRITE_VIOLATION);
     give_part(&e, place, CLEFTROMI_L_VIOLATION);
     memset(e.rw, 0, UNITS);
     return e;
@@ -513,7 +587,7 @@ static event translation_event(const uint8_t *old, unsigned m)
 
 static bool is_fault(unsigned row)
 {
-    return row == VIOLATION || row == UNDEFINED_READ || row == UNDEFINED_WRITE;
+    return row <= UNDEFINED_MODIFY;
 }
 
 static void note_event(event e, const uint8_t *old)
@@ -552,24 +626,144 @@ static void translation_leaves(const uint8_t *old, const uint8_t *block, uint64_
     event_left(e, old, block);
 }
 
+/* ------------------------------------------------------------------ */
+/* Sentence 8                                                          */
+/* ------------------------------------------------------------------ */
+
+#define U CLEFTROMI_SSR_U
+#define M CLEFTROMI_SSR_M
+#define IP CLEFTROMI_SSR_IP /* only if I is set */
+
+/* A violating read-modify-write has had its read half. */
+static const uint8_t sets[CYCLES][ANSWERS] = {
+    /* mapped    violation  undefined */
+    {U | IP,     0,         0}, /* read, which is never a violation */
+    {U | M | IP, 0,         0}, /* write */
+    {U | M | IP, U | IP,    0}, /* read-modify-write */
+};
+
+/* As the status reads: noise may have bits that it does not have. */
+static uint8_t status_at(const uint8_t *block, unsigned place)
+{
+    uint8_t status = descriptor_at(block, place)[SSR];
+    return status & ((status & CLEFTROMI_SSR_E) ? 0x9F : 0x97);
+}
+
+static uint8_t status_with(uint8_t status, uint8_t set)
+{
+    return status | (set & ((status & CLEFTROMI_SSR_I) ? 0xFF : (uint8_t)~IP));
+}
+
+/* "place" is where the access was answered, or the end. */
+static void status_left(const uint8_t *old, const uint8_t *block, unsigned place, uint8_t set)
+{
+    for (unsigned i = 0; i < places(old); i++) {
+        const uint8_t *was = descriptor_at(old, i), *is = descriptor_at(block, i);
+        must(memcmp(was, is, SSR) == 0 && was[SSR + 1] == is[SSR + 1], "an access changes a segment");
+        if (i == place)
+            must(is[SSR] == status_with(status_at(old, i), set), "an access leaves another status than its kind does");
+        else
+            must(is[SSR] == status_at(old, i), "an access changes the status of another segment");
+    }
+}
+
+static void note_access(const uint8_t *old, unsigned cycle, unsigned answer, unsigned place)
+{
+    unsigned long *noted = accesses[reached][cycle][answer];
+    uint8_t faults = old[1] & (CLEFTROMI_GSR_F | CLEFTROMI_GSR_DF);
+    noted[ACCESSES]++;
+    noted[F_WAS_SET] += (faults & CLEFTROMI_GSR_F) != 0;
+    noted[NOTHING_WAS_SET] += faults == 0;
+    if (answer == UNDEFINED)
+        return;
+    uint8_t status = status_at(old, place);
+    noted[U_WAS_CLEAR] += (status & U) == 0;
+    noted[M_WAS_CLEAR] += (status & M) == 0;
+    noted[INTERRUPTS] += (status & CLEFTROMI_SSR_I) != 0 && (status & IP) == 0;
+}
+
+/* ------------------------------------------------------------------ */
+/* Sentences 9 and 10                                                  */
+/* ------------------------------------------------------------------ */
+
+static void counted_once(const uint8_t *old, const uint8_t *block, bool fault)
+{
+    uint8_t due = old[1] & (CLEFTROMI_GSR_F | CLEFTROMI_GSR_DF | CLEFTROMI_GSR_IE);
+    if (fault)
+        due |= (due & CLEFTROMI_GSR_F) ? CLEFTROMI_GSR_DF : CLEFTROMI_GSR_F;
+    must(block[1] == due, fault ? "a fault is not counted once" : "a mapped access changes the global status");
+}
+
+static void fault_direction(const uint8_t *block, unsigned cycle, unsigned answer)
+{
+    uint8_t due = answer == UNDEFINED && cycle != WRITE ? CLEFTROMI_LSR_RW : 0;
+    for (unsigned k = 0; k < block[0]; k++)
+        must((unit_at(block, k)[LSR] & CLEFTROMI_LSR_RW) == due,
+             due ? "RW is 0 after an undefined read or read-modify-write"
+                 : "RW is 1 after an undefined write or a violation");
+}
+
+/* ------------------------------------------------------------------ */
+/* Sentence 11                                                         */
+/* ------------------------------------------------------------------ */
+
+/* The two calls are made on a copy of the block before. */
+static void read_and_write(const uint8_t *old, const uint8_t *block, uint64_t answer)
+{
+    static uint8_t copy[BLOCK];
+    call half = now;
+    memcpy(copy, old, BLOCK);
+    half.number[1] = CLEFTROMI_READ;
+    uint64_t due = call_library(half, copy, BLOCK);
+    if (cleftromi_kind(due) != CLEFTROMI_UNDEFINED) {
+        half.number[1] = CLEFTROMI_WRITE;
+        due = call_library(half, copy, BLOCK);
+    }
+    must(answer == due, "a read-modify-write has another answer than a read and then a write");
+    must(memcmp(copy, block, BLOCK) == 0, "a read-modify-write leaves other bytes than a read and then a write");
+}
+
+/* ------------------------------------------------------------------ */
+/* An access: sentences 7 to 11                                        */
+/* ------------------------------------------------------------------ */
+
+static unsigned cycle_of(uint64_t direction)
+{
+    return direction == CLEFTROMI_READ ? READ : direction == CLEFTROMI_MODIFY ? MODIFY : WRITE;
+}
+
+static unsigned answer_due(const uint8_t *old, unsigned cycle, unsigned place)
+{
+    if (place == places(old))
+        return UNDEFINED;
+    return cycle != READ && (descriptor_at(old, place)[SSR] & CLEFTROMI_SSR_WP) ? VIOLATED : MAPPED;
+}
+
 static void access_leaves(const uint8_t *old, const uint8_t *block, uint64_t answer)
 {
+    static const unsigned kinds[ANSWERS] = {CLEFTROMI_MAPPED, CLEFTROMI_VIOLATION, CLEFTROMI_UNDEFINED};
+    static const char *const wrong[ANSWERS] = {
+        "an access is not mapped where it is first matched",
+        "a write to a protected segment is no violation where it is first matched",
+        "an access that nothing matches has another answer",
+    };
     unsigned page = (unsigned)(now.number[2] >> 8), number = old[16 + now.number[0]];
     unsigned place = first_match(old, 0, page, number);
     unsigned named = 32 * cleftromi_unit(answer) + cleftromi_descriptor(answer);
-    bool write = now.number[1] != CLEFTROMI_READ;
-    if (place == places(old)) {
-        must(cleftromi_kind(answer) == CLEFTROMI_UNDEFINED, "an access that nothing matches has another answer");
-        event_left(undefined_event(old, write), old, block);
-    } else if (write && (descriptor_at(old, place)[SSR] & CLEFTROMI_SSR_WP)) {
-        must(cleftromi_kind(answer) == CLEFTROMI_VIOLATION && named == place,
-             "a write to a protected segment is no violation where it is first matched");
-        event_left(violation_event(old, place), old, block);
-        seen[SEEN_TWO_VIOLATED] += first_match(old, place + 1, page, number) != places(old);
-    } else {
-        must(cleftromi_kind(answer) == CLEFTROMI_MAPPED && named == place,
-             "an access is not mapped where it is first matched");
+    unsigned cycle = cycle_of(now.number[1]), due = answer_due(old, cycle, place);
+
+    note_access(old, cycle, due, place);
+    must(cleftromi_kind(answer) == kinds[due] && (due == UNDEFINED || named == place), wrong[due]);
+    status_left(old, block, place, sets[cycle][due]);
+    counted_once(old, block, due != MAPPED);
+    if (due != MAPPED) {
+        fault_direction(block, cycle, due);
+        event_left(due == UNDEFINED ? undefined_event(old, cycle) : violation_event(old, cycle, place), old, block);
     }
+    if (due == VIOLATED)
+        seen[SEEN_TWO_VIOLATED] += first_match(old, place + 1, page, number) != places(old);
+    if (cycle == MODIFY)
+        read_and_write(old, block, answer);
 }
 
 /* ------------------------------------------------------------------ */
@@ -734,6 +928,7 @@ static void refused_exactly(unsigned due, uint64_t answer)
     must(answer == due, "a refusal has another field");
     must(memcmp(before, room, ROOM) == 0, "a refused call has changed a byte");
     seen[SEEN_REFUSALS + due]++;
+    refused_modify[due] += now.name == CALL_ACCESS && now.number[1] == CLEFTROMI_MODIFY;
 }
 
 /* ------------------------------------------------------------------ */
@@ -879,9 +1074,11 @@ static void next(void)
 /* Half of these with a number out of range, or at least another one. */
 static call on_noise(void)
 {
-    call c = mix_single(&calls, planned());
-    if (mix_below(&calls, 2))
-        c.number[mix_below(&calls, 3)] = (uint64_t)1 << mix_below(&calls, 64);
+    call c = mix_below(&calls, 3) ? mix_single(&calls, planned()) : aimed_access(room + at, everything);
+    if (mix_below(&calls, 2)) {
+        unsigned i = mix_below(&calls, 3);
+        c.number[i] = (uint64_t)1 << mix_below(&calls, 64);
+    }
     return c;
 }
 

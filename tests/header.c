@@ -23,6 +23,7 @@ static const int constants[][2] = {
     {CLEFTROMI_NONE, 255},
     {CLEFTROMI_READ, 0},
     {CLEFTROMI_WRITE, 1},
+    {CLEFTROMI_MODIFY, 2},
     {CLEFTROMI_DONE, 1},
     {CLEFTROMI_BYTE, 2},
     {CLEFTROMI_MAPPED, 3},

@@ -8,7 +8,7 @@
 /* ------------------------------------------------------------------ */
 
 /* n: a decimal digit.  m: a decimal digit or '-'.  x: a hexadecimal digit.
- * r: R or W.  A capital or a space stands for itself. */
+ * r: R, W or M.  A capital or a space stands for itself. */
 static const char *const forms[] = {
     "S n m", "W n xx xx", "G n xx", "T x r xxxxxx", "A n",
 };
@@ -38,13 +38,15 @@ static uint32_t unit_or_none(uint8_t byte)
     return decimal(byte);
 }
 
-/* As the model has a direction: 0 reads, 1 writes. */
+/* As the model has a direction: 0 reads, 1 writes; M is a read-modify-write. */
 static uint32_t direction(uint8_t byte)
 {
     if (byte == 'R')
         return 0;
     if (byte == 'W')
         return 1;
+    if (byte == 'M')
+        return MODEL_MODIFY;
     return NO_DIGIT;
 }
 

@@ -100,16 +100,43 @@ static void put(mix *x, call_name name, uint64_t a, uint64_t b, uint64_t c, uint
         x->queue[x->first + x->waiting++] = made;
 }
 
-/* 1, or now and then another number that writes all the same. */
+#define TOP ((uint64_t)1 << 63)
+
+/* 1, or now and then another number that writes all the same: small ones, and
+ * some that a narrowing would turn into a read or a read-modify-write. */
 static uint64_t writing(mix *x)
 {
-    static const uint64_t others[] = {2, 128, 255, 256, 0x10000, 0x100000000, UINT64_MAX / 2 + 1, UINT64_MAX};
-    return one_in(x, 16) ? others[mix_below(x, 8)] : CLEFTROMI_WRITE;
+    static const uint64_t others[] = {3,       3,          4,           128,         255, 256,     258,       0x10000,
+                                      0x10002, 0x80000002, 0x100000000, 0x100000002, TOP, TOP + 2, UINT64_MAX};
+    return one_in(x, 6) ? others[mix_below(x, sizeof others / sizeof others[0])] : CLEFTROMI_WRITE;
+}
+
+uint64_t mix_direction(mix *x)
+{
+    switch (mix_below(x, 3)) {
+    case 0:
+        return CLEFTROMI_READ;
+    case 1:
+        return CLEFTROMI_MODIFY;
+    default:
+        return writing(x);
+    }
+}
+
+/* For a register a read-modify-write's number is one more that writes. */
+static uint64_t writing_register(mix *x)
+{
+    return one_in(x, 32) ? CLEFTROMI_MODIFY : writing(x);
+}
+
+static uint64_t register_direction(mix *x)
+{
+    return one_in(x, 2) ? CLEFTROMI_READ : writing_register(x);
 }
 
 static void put_write(mix *x, unsigned unit, unsigned address, uint8_t value)
 {
-    put(x, CALL_REGISTER, unit, address, writing(x), value);
+    put(x, CALL_REGISTER, unit, address, writing_register(x), value);
 }
 
 static void put_read(mix *x, unsigned unit, unsigned address)
@@ -127,10 +154,10 @@ static void put_read_anywhere(mix *x, const model *m, unsigned address)
     put_read(x, any_unit(x, m), address);
 }
 
-static void put_access(mix *x, unsigned function_code, unsigned direction, unsigned page)
+static void put_access(mix *x, unsigned function_code, uint64_t direction, unsigned page)
 {
     uint64_t address = (uint64_t)page << 8 | any_byte(x);
-    put(x, CALL_ACCESS, function_code, direction ? writing(x) : CLEFTROMI_READ, address, 0);
+    put(x, CALL_ACCESS, function_code, direction, address, 0);
 }
 
 static void put_acknowledge(mix *x, unsigned unit)
@@ -291,7 +318,7 @@ static void reload(mix *x, const model *m)
 }
 
 /* An access that a descriptor matches; WP and I decide what comes of it. */
-static void hit(mix *x, const model *m, uint8_t status, unsigned direction)
+static void hit(mix *x, const model *m, uint8_t status, uint64_t direction)
 {
     unsigned unit, number, code = mix_below(x, 16);
     const model_descriptor *d = with_status(x, m, status, &unit, &number);
@@ -303,19 +330,20 @@ static void hit(mix *x, const model *m, uint8_t status, unsigned direction)
     put_access(x, code, direction, mix_page(x, d));
     if (one_in(x, 2)) {
         unsigned page = mix_page(x, d);
-        put_access(x, code, mix_below(x, 2), page);
+        put_access(x, code, mix_direction(x), page);
     }
 }
 
 static void access_segment(mix *x, const model *m)
 {
-    hit(x, m, CLEFTROMI_SSR_E, mix_below(x, 2));
+    hit(x, m, CLEFTROMI_SSR_E, mix_direction(x));
 }
 
 static void access_anything(mix *x, const model *m)
 {
     (void)m;
-    unsigned page = any_word(x), direction = mix_below(x, 2);
+    unsigned page = any_word(x);
+    uint64_t direction = mix_direction(x);
     put_access(x, mix_below(x, 16), direction, page);
 }
 
@@ -335,10 +363,43 @@ static void fault(mix *x, const model *m)
         if (one_in(x, 3))
             access_anything(x, m);
         else
-            hit(x, m, CLEFTROMI_SSR_E | CLEFTROMI_SSR_WP, CLEFTROMI_WRITE);
+            hit(x, m, CLEFTROMI_SSR_E | CLEFTROMI_SSR_WP, one_in(x, 2) ? CLEFTROMI_MODIFY : writing(x));
     put_status_reads(x, m);
     if (one_in(x, 2))
         put_write_anywhere(x, m, CLEFTROMI_GSR, any_byte(x));
+}
+
+/* Takes IP from some that have it, so that IRQ may go away. */
+static void put_quiet(mix *x, const model *m)
+{
+    unsigned unit, number;
+    for (unsigned i = 0; i < 4; i++) {
+        const model_descriptor *d = with_status(x, m, CLEFTROMI_SSR_E | CLEFTROMI_SSR_IP, &unit, &number);
+        if (d == NULL)
+            return;
+        put_write(x, unit, CLEFTROMI_DP, (uint8_t)number);
+        put_write(x, unit, CLEFTROMI_SSR, d->ssr & (uint8_t)~CLEFTROMI_SSR_IP);
+    }
+}
+
+/* A read-modify-write after any global status, of a segment with any status. */
+static void modify(mix *x, const model *m)
+{
+    unsigned unit, number, code = mix_below(x, 16), page = any_word(x);
+    const model_descriptor *d = mix_enabled(x, m, &unit, &number);
+    if (one_in(x, 2))
+        put_quiet(x, m);
+    if (!one_in(x, 4))
+        put_write_anywhere(x, m, CLEFTROMI_GSR, any_byte(x));
+    if (d != NULL && !one_in(x, 4)) {
+        put_write(x, unit, CLEFTROMI_DP, (uint8_t)number);
+        put_write(x, unit, CLEFTROMI_SSR, any_byte(x) | CLEFTROMI_SSR_E);
+        put_write_anywhere(x, m, CLEFTROMI_AST(code), mix_number(x, d));
+        page = mix_page(x, d);
+    }
+    put_access(x, code, CLEFTROMI_MODIFY, page);
+    if (one_in(x, 2))
+        put_status_reads(x, m);
 }
 
 /* IP by an access or by a status write, IE, acknowledge, and IP away again. */
@@ -352,7 +413,7 @@ static void interrupt(mix *x, const model *m)
     put_write(x, unit, CLEFTROMI_SSR, status);
     if (one_in(x, 2))
         put_write_anywhere(x, m, CLEFTROMI_GSR, any_byte(x) | CLEFTROMI_GSR_IE);
-    hit(x, m, CLEFTROMI_SSR_E | CLEFTROMI_SSR_I, mix_below(x, 2));
+    hit(x, m, CLEFTROMI_SSR_E | CLEFTROMI_SSR_I, mix_direction(x));
     put_read_anywhere(x, m, one_in(x, 2) ? CLEFTROMI_IDP : CLEFTROMI_LSR);
     put_acknowledge(x, any_unit(x, m));
     if (one_in(x, 2))
@@ -436,7 +497,8 @@ static void null_operation(mix *x, const model *m)
         put_write_anywhere(x, m, only_read[mix_below(x, sizeof only_read)], value);
         return;
     }
-    unsigned direction = mix_below(x, 2), place = places[mix_below(x, sizeof places)];
+    unsigned place = places[mix_below(x, sizeof places)];
+    uint64_t direction = register_direction(x);
     put(x, CALL_REGISTER, any_unit(x, m), place, direction, value);
 }
 
@@ -464,9 +526,9 @@ static void restart(mix *x, const model *m)
 static uint64_t bad_number(mix *x, uint64_t good)
 {
     static const uint64_t edges[] = {
-        0, 1, 2, 3, 5, 6, 7, 15, 16, 31, 32, 63, 64, 127, 128, 254, 255, 256, 257, 0xFFFF, 0x10000, 0xFFFFFF, 0x1000000,
-        0x7FFFFFFF, 0x80000000, 0xFFFFFFFF, 0x100000000, 0x1000000FF, UINT64_MAX / 2, UINT64_MAX / 2 + 1,
-        UINT64_MAX - 1, UINT64_MAX,
+        0, 1, 2, 3, 5, 6, 7, 15, 16, 31, 32, 63, 64, 127, 128, 254, 255, 256, 257, 258, 0xFFFF, 0x10000, 0x10002,
+        0xFFFFFF, 0x1000000, 0x7FFFFFFF, 0x80000000, 0xFFFFFFFF, 0x100000000, 0x100000002, 0x1000000FF, TOP - 1, TOP,
+        TOP + 2, UINT64_MAX - 1, UINT64_MAX,
     };
     if (one_in(x, 2))
         return edges[mix_below(x, sizeof edges / sizeof edges[0])];
@@ -480,7 +542,8 @@ static uint64_t bad_number(mix *x, uint64_t good)
 static void any_register(mix *x, const model *m)
 {
     uint8_t value = any_byte(x);
-    unsigned direction = mix_below(x, 2), address = mix_below(x, 64);
+    unsigned address = mix_below(x, 64);
+    uint64_t direction = register_direction(x);
     put(x, CALL_REGISTER, any_unit(x, m), address, direction, value);
 }
 
@@ -517,12 +580,12 @@ static void bad_call(mix *x, const model *m)
 /* Mixtures                                                            */
 /* ------------------------------------------------------------------ */
 
-#define SEQUENCES 18u
+#define SEQUENCES 19u
 
 static void (*const sequences[SEQUENCES])(mix *, const model *) = {
     fill,         load_segment, reload,           access_segment, access_anything, fault,
     interrupt,    status_write, transfer,         translate,      read_register,   write_register,
-    write_status, acknowledge,  half_accumulator, null_operation, restart,         bad_call,
+    write_status, acknowledge,  half_accumulator, null_operation, restart,         bad_call,       modify,
 };
 
 #define MODES 8u
@@ -530,14 +593,14 @@ static void (*const sequences[SEQUENCES])(mix *, const model *) = {
 
 /* How often each sequence comes, in the order above. */
 static const uint8_t weights[MODES][SEQUENCES] = {
-    {80, 4, 2, 30, 2, 1, 1, 0, 0, 4, 2, 0, 1, 1, 0, 1, 0, 1},        /* fills the units */
-    {5, 40, 20, 20, 2, 4, 2, 4, 2, 2, 2, 2, 2, 1, 4, 1, 0, 4},       /* loads and reloads */
-    {5, 10, 2, 20, 10, 40, 2, 4, 2, 2, 8, 1, 6, 1, 2, 1, 0, 4},      /* faults */
-    {5, 10, 2, 20, 2, 4, 40, 10, 2, 2, 4, 1, 6, 10, 1, 1, 0, 4},     /* interrupts */
-    {5, 10, 10, 5, 5, 10, 1, 2, 20, 20, 6, 2, 1, 1, 40, 1, 0, 4},    /* half accumulators */
-    {5, 20, 2, 10, 2, 4, 2, 2, 10, 40, 8, 1, 1, 1, 4, 1, 0, 4},      /* direct translation */
-    {5, 10, 5, 10, 10, 5, 5, 10, 5, 5, 30, 30, 5, 5, 5, 10, 1, 10},  /* anything */
-    {1, 5, 1, 5, 5, 2, 2, 2, 2, 2, 2, 2, 2, 5, 2, 5, 2, 150},        /* bad numbers */
+    {80, 4, 2, 30, 2, 1, 1, 0, 0, 4, 2, 0, 1, 1, 0, 1, 0, 1, 2},       /* fills the units */
+    {5, 40, 20, 20, 2, 4, 2, 4, 2, 2, 2, 2, 2, 1, 4, 1, 0, 4, 2},      /* loads and reloads */
+    {5, 10, 2, 20, 10, 40, 2, 4, 2, 2, 8, 1, 6, 1, 2, 1, 0, 4, 20},    /* faults */
+    {5, 10, 2, 20, 2, 4, 40, 10, 2, 2, 4, 1, 6, 10, 1, 1, 0, 4, 20},   /* interrupts */
+    {5, 10, 10, 5, 5, 10, 1, 2, 20, 20, 6, 2, 1, 1, 40, 1, 0, 4, 2},   /* half accumulators */
+    {5, 20, 2, 10, 2, 4, 2, 2, 10, 40, 8, 1, 1, 1, 4, 1, 0, 4, 2},     /* direct translation */
+    {5, 10, 5, 10, 10, 5, 5, 10, 5, 5, 30, 30, 5, 5, 5, 10, 1, 10, 10}, /* anything */
+    {1, 5, 1, 5, 5, 2, 2, 2, 2, 2, 2, 2, 2, 5, 2, 5, 2, 150, 5},       /* bad numbers */
 };
 
 static unsigned weighted(mix *x, const uint8_t *row)

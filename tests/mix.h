@@ -21,6 +21,10 @@ void mix_begin(mix *x, uint64_t seed);
 uint64_t mix_random(mix *x);
 unsigned mix_below(mix *x, unsigned n);
 
+/* A direction of a bus access: reads, writes and read-modify-writes as often as
+ * one another, a write now and then by some other number than 1. */
+uint64_t mix_direction(mix *x);
+
 /* A page and a number that a descriptor matches. */
 uint16_t mix_page(mix *x, const model_descriptor *d);
 uint8_t mix_number(mix *x, const model_descriptor *d);

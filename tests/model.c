@@ -369,7 +369,7 @@ static void latch(model_unit *u, uint16_t page, uint8_t number)
 }
 
 /* 4.5.3.3, 4.5.3.6, 4.5.3.7: every unit sets F, DF if F was set already, and
- * takes R/W (one for a read). */
+ * takes R/W as it stands then (one for a read). */
 static void fault(model *m, bool write)
 {
     if (m->gsr & GSR_F)
@@ -392,7 +392,9 @@ static model_answer undefined_segment_access(model *m, bool write, uint16_t page
     return answer(m, MODEL_UNDEFINED);
 }
 
-/* 4.5.3.3 in the matching unit, 4.5.3.6 in the others.  U, M and IP stay. */
+/* 4.5.3.3 in the matching unit, 4.5.3.6 in the others.  U, M and IP stay.  The
+ * others do so also after the read half of a read-modify-write, which 4.5.3.5
+ * would have them pass over (ruling 12). */
 static model_answer write_violation(model *m, unsigned unit, unsigned descriptor, uint16_t page, uint8_t number)
 {
     fault(m, true);
@@ -411,21 +413,40 @@ static model_answer write_violation(model *m, unsigned unit, unsigned descriptor
     return a;
 }
 
-/* 4.5.3.2 */
+/* 3.1.6, 4.5.3.2: a segment access sets U, and IP if I is set. */
+static void segment_access(model_descriptor *d)
+{
+    d->ssr |= SSR_U;
+    if (d->ssr & SSR_I)
+        d->ssr |= SSR_IP;
+}
+
+/* 4.5.3.2; 3.1.6: M by a "successful write to the segment". */
 static model_answer successful_translation(model *m, unsigned unit, unsigned descriptor, bool write, uint32_t address)
 {
     model_descriptor *d = &m->unit[unit].d[descriptor];
-    d->ssr |= SSR_U;
+    segment_access(d);
     if (write)
         d->ssr |= SSR_M;
-    if (d->ssr & SSR_I)
-        d->ssr |= SSR_IP;
     model_answer a = answer(m, MODEL_MAPPED);
     a.win = (d->ssr & SSR_WP) ? 1 : 0; /* 2.23 */
     a.unit = unit;
     a.descriptor = descriptor;
     a.address = ((uint32_t)physical_page(d, (uint16_t)(address >> 8)) << 8) | (address & 0xFF);
     return a;
+}
+
+/* The kinds of cycle.  A read-modify-write begins as a read; then R/W goes low
+ * while AS stays asserted (4.5.3.2, item 3; P1). */
+typedef enum { READ, WRITE, READ_MODIFY_WRITE } cycle;
+
+static cycle cycle_of(uint64_t direction)
+{
+    if (direction == 0)
+        return READ;
+    if (direction == MODEL_MODIFY)
+        return READ_MODIFY_WRITE;
+    return WRITE;
 }
 
 model_answer model_access(model *m, uint64_t function_code, uint64_t direction, uint64_t address)
@@ -438,15 +459,18 @@ model_answer model_access(model *m, uint64_t function_code, uint64_t direction, 
         return refused(5);
     read_as_state(m);
 
-    bool write = direction != 0;
+    cycle kind = cycle_of(direction);
     uint16_t page = (uint16_t)(address >> 8);
     uint8_t number = m->table[function_code]; /* 2.17, 3.2.1 */
     unsigned unit, descriptor;
-    if (!search(m, page, number, &unit, &descriptor))
-        return undefined_segment_access(m, write, page, number);
-    if (write && (m->unit[unit].d[descriptor].ssr & SSR_WP))
-        return write_violation(m, unit, descriptor, page, number);
-    return successful_translation(m, unit, descriptor, write, (uint32_t)address);
+    if (!search(m, page, number, &unit, &descriptor)) /* R/W is still high in a read-modify-write */
+        return undefined_segment_access(m, kind == WRITE, page, number);
+    model_descriptor *d = &m->unit[unit].d[descriptor];
+    if (kind == READ || (d->ssr & SSR_WP) == 0)
+        return successful_translation(m, unit, descriptor, kind != READ, (uint32_t)address);
+    if (kind == READ_MODIFY_WRITE)
+        segment_access(d); /* its read half, which is no violation */
+    return write_violation(m, unit, descriptor, page, number);
 }
 
 /* ------------------------------------------------------------------ */

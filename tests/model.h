@@ -1,7 +1,8 @@
 /* One to six MC68451 memory management units, at the level of whole cycles.
  *
  * Written from the papers alone: the MC68451 handbook of April 1983 (section
- * numbers such as 4.6.3.2 are its own), document 01 ("01") and the rulings.
+ * numbers such as 4.6.3.2 are its own), document 01 ("01"), request P1 of
+ * document 02 and the rulings.
  * It is an oracle for tests: clarity goes before speed everywhere.
  */
 #ifndef MODEL_H
@@ -54,7 +55,12 @@ typedef struct {
 
 #define MODEL_NONE 255
 
-/* selected: a unit or MODEL_NONE.  direction: 0 reads, any other number writes. */
+/* The direction of a bus access: 0 reads, MODEL_MODIFY is a read-modify-write
+ * (document 02, P1), any other number writes. */
+#define MODEL_MODIFY 2
+
+/* selected: a unit or MODEL_NONE.  The direction of a register access: 0 reads,
+ * any other number writes, MODEL_MODIFY too. */
 model_answer model_start(model *m, uint64_t units, uint64_t selected);
 model_answer model_reset(model *m, uint64_t selected);
 model_answer model_access(model *m, uint64_t function_code, uint64_t direction, uint64_t address);

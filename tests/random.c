@@ -9,6 +9,7 @@
 #include "pair.h"
 
 static pair both;
+static model before; /* the call */
 static mix calls;
 
 /* ------------------------------------------------------------------ */
@@ -33,6 +34,15 @@ enum {
     SEEN_DOUBLE_FAULT,
     SEEN_LAST_UNIT,
     SEEN_FULL_UNIT,
+    SEEN_MODIFIED,
+    SEEN_MODIFY_FAULT,
+    SEEN_MODIFY_DOUBLE_FAULT,
+    SEEN_MODIFY_IRQ,
+    SEEN_MODIFY_VIOLATION, /* the rarest of the kinds below */
+    SEEN_THREE,
+    SEEN_WIDE_TWO,
+    SEEN_REGISTER_TWO,
+    SEEN_REGISTER_WIDE_TWO,
     SEEN_END
 };
 
@@ -41,9 +51,17 @@ static const char *const seen_names[SEEN_END] = {
     "done", "bytes", "mapped", "violations", "undefined", "IRQ", "WIN", "vectors",
     "loads granted", "loads refused", "loads refused by another unit alone", "translations", "translations refused",
     "double faults", "answers of unit 5", "full units",
+    "read-modify-writes of free segments", "undefined read-modify-writes with F clear", "with F set",
+    "read-modify-writes of protected segments that raise IRQ", "the rarest of 32 kinds of those that violate",
+    "accesses with direction 3", "with another that ends in 2", "register accesses with direction 2",
+    "with another that ends in 2",
 };
 
 static unsigned long seen[SEEN_END];
+
+/* Violating read-modify-writes by what stood before: one unit or several, IE,
+ * and I, IP and U of the segment. */
+static unsigned long violated[2][2][2][2][2];
 
 static bool is_read(call c, unsigned address)
 {
@@ -65,8 +83,40 @@ static bool full(const model_unit *u)
     return true;
 }
 
-static void note(call c, model_answer a)
+static bool ends_in_two(uint64_t direction)
 {
+    return direction > 255 && direction % 256 == 2;
+}
+
+static void note_direction(call c)
+{
+    if (c.name == CALL_ACCESS) {
+        seen[SEEN_THREE] += c.number[1] == 3;
+        seen[SEEN_WIDE_TWO] += ends_in_two(c.number[1]);
+    } else if (c.name == CALL_REGISTER) {
+        seen[SEEN_REGISTER_TWO] += c.number[2] == CLEFTROMI_MODIFY;
+        seen[SEEN_REGISTER_WIDE_TWO] += ends_in_two(c.number[2]);
+    }
+}
+
+static void note_modify(const model *old, model_answer a, bool irq)
+{
+    const uint8_t ssr = old->unit[a.unit].d[a.descriptor].ssr;
+    if (a.kind == MODEL_MAPPED) {
+        seen[SEEN_MODIFIED]++;
+    } else if (a.kind == MODEL_UNDEFINED) {
+        seen[old->gsr & CLEFTROMI_GSR_F ? SEEN_MODIFY_DOUBLE_FAULT : SEEN_MODIFY_FAULT]++;
+    } else {
+        seen[SEEN_MODIFY_IRQ] += a.irq && !irq;
+        violated[old->count > 1][(old->gsr & CLEFTROMI_GSR_IE) != 0][(ssr & CLEFTROMI_SSR_I) != 0]
+                [(ssr & CLEFTROMI_SSR_IP) != 0][(ssr & CLEFTROMI_SSR_U) != 0]++;
+    }
+}
+
+/* "old" is the state before the call; "irq" is what the last answer said. */
+static void note(const model *old, call c, model_answer a)
+{
+    static unsigned irq;
     if (a.refusal != 0) {
         seen[SEEN_REFUSALS + a.refusal]++;
         return;
@@ -84,15 +134,29 @@ static void note(call c, model_answer a)
         seen[a.byte == 0 ? SEEN_TRANSLATION : SEEN_NO_TRANSLATION]++;
     if (c.name == CALL_ACCESS)
         seen[SEEN_FULL_UNIT] += full(&both.m.unit[0]);
+    note_direction(c);
+    if (c.name == CALL_ACCESS && c.number[1] == CLEFTROMI_MODIFY)
+        note_modify(old, a, irq);
+    irq = a.irq;
+}
+
+static unsigned long rarest(const unsigned long *counts, unsigned length)
+{
+    unsigned long least = counts[0];
+    for (unsigned i = 1; i < length; i++)
+        if (counts[i] < least)
+            least = counts[i];
+    return least;
 }
 
 /* A long run that misses one of these tests less than it says. */
 static int report(unsigned long made)
 {
     int status = 0;
+    seen[SEEN_MODIFY_VIOLATION] = rarest(&violated[0][0][0][0][0], 32);
     for (unsigned i = 1; i < SEEN_END; i++) {
         printf("%s%lu %s", i > 1 ? ", " : "", seen[i], seen_names[i]);
-        if (made >= 100000 && seen[i] < 20)
+        if (made >= 1000000 && seen[i] < 20)
             status = 1;
     }
     printf("\n%lu calls%s\n", made, status ? ", but some of these were seen too seldom" : ", all the same");
@@ -146,12 +210,13 @@ int main(int argc, char **argv)
             lend_again();
         vary_length();
         call c = i == 0 ? start : mix_next(&calls, &both.m);
+        before = both.m;
         if (!pair_call(&both, c)) {
             printf("seed %" PRIu64 ", call %lu, %zu bytes lent at %zu: ", seed, i, both.bytes, both.at);
             call_print(c);
             return 1;
         }
-        note(c, both.answer);
+        note(&before, c, both.answer);
     }
     return report(wanted);
 }

@@ -47,7 +47,7 @@ static uint8_t any_byte(void)
 /* A byte that stands in good lines, or nearly does. */
 static uint8_t likely_byte(void)
 {
-    static const char likely[] = "0123456789ABCDEFGRSTWabcdefrstw-  ";
+    static const char likely[] = "0123456789ABCDEFGMRSTWabcdefmrstw-  ";
     return (uint8_t)likely[below(sizeof likely - 1)];
 }
 
@@ -72,9 +72,14 @@ static void put_start(text *t, uint64_t units, uint64_t unit)
     t->length = (size_t)sprintf((char *)t->bytes, "S %u %c", as_digit(units), selected(unit));
 }
 
+static char direction(uint64_t number)
+{
+    return number == CLEFTROMI_READ ? 'R' : number == CLEFTROMI_MODIFY ? 'M' : 'W';
+}
+
 static void put_access(text *t, const uint64_t *number)
 {
-    t->length = (size_t)sprintf((char *)t->bytes, "T %X %c %06X", (unsigned)(number[0] % 16), number[1] ? 'W' : 'R',
+    t->length = (size_t)sprintf((char *)t->bytes, "T %X %c %06X", (unsigned)(number[0] % 16), direction(number[1]),
                                 (unsigned)(number[2] % 0x1000000));
 }
 
@@ -233,6 +238,16 @@ static void wrong_digit(text *t)
         t->bytes[at] = (uint8_t)('A' + below(8));
 }
 
+/* A letter that is no direction; M where no direction stands. */
+static void wrong_letter(text *t)
+{
+    static const char letters[] = "mrwXxLNMS2 ";
+    if (t->bytes[0] == 'T' && !one_in(4))
+        t->bytes[4] = (uint8_t)letters[below(sizeof letters - 1)];
+    else
+        t->bytes[one_in(2) ? 0 : any_place(t)] = 'M';
+}
+
 static void zero_byte(text *t)
 {
     insert(t, one_in(2) ? t->length : any_place(t), 0);
@@ -284,9 +299,18 @@ static void long_line(text *t)
 static void (*const spoils[])(text *) = {
     change,        insert_byte, drop_byte, cut,       empty,    wrong_digit, dash,
     small_letters, zero_byte,   high_bit,  tab,       no_space, two_spaces,  carriage_return,
-    space_before,  edge,        long_line, good_line_behind,    space_behind,
+    space_before,  edge,        long_line, good_line_behind,    space_behind, wrong_letter,
 };
 #define SPOILS (sizeof spoils / sizeof spoils[0])
+
+/* A bus access has a letter more than the others. */
+static void spoil(text *t)
+{
+    if (t->bytes[0] == 'T' && one_in(3))
+        wrong_letter(t);
+    else
+        spoils[below(SPOILS)](t);
+}
 
 /* ------------------------------------------------------------------ */
 /* Bytes                                                               */
@@ -313,7 +337,7 @@ static void put_lines(unsigned long wanted)
     for (unsigned long i = 0; i < wanted; i++) {
         if (i > 0 && one_in(8)) {
             spoiled = good;
-            spoils[below(SPOILS)](&spoiled);
+            spoil(&spoiled);
             put_line(&spoiled);
         } else {
             good_line(&good);
@@ -326,8 +350,8 @@ static call any_call(void)
 {
     call c = {CALL_START, {0}, any_byte()};
     c.name = (call_name)below(5);
-    for (unsigned i = 0; i < 3; i++)
-        c.number[i] = any();
+    for (unsigned i = 0; i < 3; i++) /* small ones too, so that all directions come */
+        c.number[i] = one_in(2) ? below(4) : any();
     return c;
 }
 

@@ -12,6 +12,8 @@
 #include "pair.h"
 
 #define AREA 16384u
+#define WIDE ((uint64_t)1 << 32)
+#define WIDEST UINT64_MAX
 
 static uint8_t *area; /* AREA bytes, with memory that may not be touched on both sides */
 static uint8_t before[AREA];
@@ -67,6 +69,7 @@ static const call good[] = {
     {CALL_START, {2, 0, 0}, 0},
     {CALL_RESET, {CLEFTROMI_NONE, 0, 0}, 0},
     {CALL_ACCESS, {5, CLEFTROMI_WRITE, 0x001234}, 0},
+    {CALL_ACCESS, {5, CLEFTROMI_MODIFY, 0x001234}, 0},
     {CALL_REGISTER, {1, CLEFTROMI_IVR, CLEFTROMI_WRITE}, 0x40},
     {CALL_ACKNOWLEDGE, {0, 0, 0}, 0},
 };
@@ -97,6 +100,13 @@ static void long_enough(size_t bytes)
         {CALL_RESET, {1, 0, 0}, 0},
         {CALL_ACCESS, {0, CLEFTROMI_WRITE, 0xFFFFFF}, 0},
         {CALL_REGISTER, {1, CLEFTROMI_SSR, CLEFTROMI_READ}, 0},
+        {CALL_ACCESS, {0, CLEFTROMI_MODIFY, 0xFFFFFF}, 0},
+        {CALL_REGISTER, {1, CLEFTROMI_SSR, CLEFTROMI_MODIFY}, CLEFTROMI_SSR_E | CLEFTROMI_SSR_WP},
+        {CALL_ACCESS, {0, CLEFTROMI_MODIFY, 0xFFFFFF}, 0},
+        {CALL_REGISTER, {1, CLEFTROMI_SSR, WIDE + CLEFTROMI_MODIFY}, 0},
+        {CALL_ACCESS, {0, CLEFTROMI_MODIFY, 0xFFFFFF}, 0},
+        {CALL_ACCESS, {0, WIDE + CLEFTROMI_MODIFY, 0xFFFFFF}, 0},
+        {CALL_ACCESS, {0, CLEFTROMI_MODIFY + 1, 0xFFFFFF}, 0},
     };
     static model m;
     uint8_t *state = area + AREA - bytes;
@@ -117,9 +127,6 @@ static void long_enough(size_t bytes)
 /* The order of refusals                                               */
 /* ------------------------------------------------------------------ */
 
-#define WIDE ((uint64_t)1 << 32)
-#define WIDEST UINT64_MAX
-
 /* Whatever stands in the block: the count asked for, the length. */
 static const struct {
     size_t bytes;
@@ -129,6 +136,7 @@ static const struct {
     {4095, 7, {CALL_START, {0, 9, 0}, 0}},
     {4095, 7, {CALL_RESET, {9, 0, 0}, 0}},
     {4095, 7, {CALL_ACCESS, {16, 0, WIDE}, 0}},
+    {4095, 7, {CALL_ACCESS, {16, CLEFTROMI_MODIFY, WIDE}, 0}},
     {4095, 7, {CALL_REGISTER, {9, 64, 0}, 0}},
     {4095, 7, {CALL_ACKNOWLEDGE, {9, 0, 0}, 0}},
     {4096, 1, {CALL_START, {0, 0, 0}, 0}},
@@ -147,6 +155,8 @@ static const call on_bad_count[] = {
     {CALL_RESET, {9, 0, 0}, 0},          {CALL_RESET, {0, 0, 0}, 0},         {CALL_ACCESS, {16, 0, WIDE}, 0},
     {CALL_ACCESS, {0, 1, 0}, 0},         {CALL_REGISTER, {9, 64, 0}, 0},     {CALL_REGISTER, {0, 0x2B, 1}, 9},
     {CALL_ACKNOWLEDGE, {WIDEST, 0, 0}, 0}, {CALL_ACKNOWLEDGE, {0, 0, 0}, 0},
+    {CALL_ACCESS, {16, CLEFTROMI_MODIFY, WIDE}, 0},
+    {CALL_ACCESS, {0, CLEFTROMI_MODIFY, 0}, 0},
 };
 
 /* Two units; "irq" says whether IRQ is asserted then. */
@@ -171,6 +181,12 @@ static const struct {
     {0, 5, {CALL_ACCESS, {15, 0, 0x1000000}, 0}},
     {0, 5, {CALL_ACCESS, {0, 1, WIDE}, 0}},
     {0, 5, {CALL_ACCESS, {0, 1, WIDEST}, 0}},
+    {0, 4, {CALL_ACCESS, {16, CLEFTROMI_MODIFY, 0x1000000}, 0}},
+    {0, 4, {CALL_ACCESS, {WIDE, CLEFTROMI_MODIFY, 0}, 0}},
+    {1, 5, {CALL_ACCESS, {15, CLEFTROMI_MODIFY, 0x1000000}, 0}},
+    {0, 5, {CALL_ACCESS, {0, CLEFTROMI_MODIFY, WIDE}, 0}},
+    {0, 2, {CALL_REGISTER, {2, 64, CLEFTROMI_MODIFY}, 0x77}},
+    {0, 3, {CALL_REGISTER, {1, 64, CLEFTROMI_MODIFY}, 0x77}},
     {0, 2, {CALL_ACKNOWLEDGE, {2, 0, 0}, 0}},
     {1, 2, {CALL_ACKNOWLEDGE, {2, 0, 0}, 0}},
     {1, 2, {CALL_ACKNOWLEDGE, {255, 0, 0}, 0}},

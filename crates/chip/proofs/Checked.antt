@@ -8,6 +8,7 @@
 --     carried-out-granted  past its checks a call is granted
 --     performed-number     the outcome tells the table's number
 --     performed-granted    where that is 0, the call is carried out
+--     performed-irq        and gives IRQ as it stands afterwards
 --     refused-system       where it is not, the system is as it was
 --     refused-alike        and what the call would do makes no difference
 -- Assumes nothing.
@@ -20,6 +21,7 @@ use native.Mathlib.Omega.{arith}
 use lib.Dec.{lit<}
 use Rattle.descriptors.specs.Descriptor.{protected}
 use Rattle.chip.specs.System.{descriptor}
+use Rattle.chip.specs.Search.{irq}
 use Rattle.chip.specs.Answer.{number, values, refused, granted, checked, first-of, numbered}
 use Rattle.chip.specs.Access.{writes, match-at, translate-at, translate}
 use Rattle.chip.specs.Register.{operate}
@@ -31,6 +33,7 @@ use Rattle.chip.specs.declared.search.Found.the-variants.{At, Nowhere}
 use Rattle.chip.specs.declared.register.Operation.the-variants as operation
 use Rattle.chip.specs.declared.answer.Refusal.{Refusal}
 use Rattle.chip.specs.declared.answer.Refusal.the-variants as refusal
+use Rattle.chip.specs.declared.answer.Answer.{Answer}
 use Rattle.chip.specs.declared.answer.Outcome.{Outcome}
 use Rattle.chip.specs.declared.call.Call.{Call}
 use Rattle.chip.specs.declared.call.Call.the-variants as call
@@ -75,21 +78,32 @@ module _ (c : Call) (s : System) where
   unfolding refused
   performed-law P h k = outcome-law (λ (o : Outcome). P (o .system)) (λ r. h) k
 
-translated : (f : Found) (cycle : Cycle) (page number offset : ℕ) (s : System)
-    → values (translate-at f cycle page number offset s .answer) .number ≡ 0
-unfolding translate-at match-at granted
+-- an answer that is no refusal, with IRQ as it stands in the system that is left
+record Is-granted (o : Outcome) : Type 0 where
+  number : values (o .answer) .number ≡ 0
+  asserted : o .irq ≡ irq (o .system)
+
+granted-is : (a : Answer) (s : System) → values a .number ≡ 0 → Is-granted (granted a s)
+unfolding granted
+granted-is a s e = record { number = e; asserted = refl }
+
+translated : (f : Found) (cycle : Cycle) (page number offset : ℕ) (s : System) → Is-granted (translate-at f cycle page number offset s)
+unfolding translate-at match-at
 translated (At i) cycle page number offset s =
-    either (λ (o : Outcome). values (o .answer) .number ≡ 0) (writes cycle && protected (descriptor s i)) (λ e. refl) (λ e. refl)
-translated Nowhere cycle page number offset s = refl
+    either Is-granted (writes cycle && protected (descriptor s i)) (λ e. granted-is _ _ refl) (λ e. granted-is _ _ refl)
+translated Nowhere cycle page number offset s = granted-is _ _ refl
+
+is-granted : (c : Call) (s : System) → Is-granted (carried-out c s)
+unfolding translate operate
+is-granted (call.Start count selected) s = granted-is _ _ refl
+is-granted (call.Reset selected) s = granted-is _ _ refl
+is-granted (call.Access code cycle address) s = translated _ cycle _ _ _ s
+is-granted (call.Register m address operation.Read) s = granted-is _ _ refl
+is-granted (call.Register m address (operation.Write value)) s = granted-is _ _ refl
+is-granted (call.Acknowledge m) s = granted-is _ _ refl
 
 pub carried-out-granted : (c : Call) (s : System) → values (carried-out c s .answer) .number ≡ 0
-unfolding granted translate operate
-carried-out-granted (call.Start count selected) s = refl
-carried-out-granted (call.Reset selected) s = refl
-carried-out-granted (call.Access code cycle address) s = translated _ cycle _ _ _ s
-carried-out-granted (call.Register m address operation.Read) s = refl
-carried-out-granted (call.Register m address (operation.Write value)) s = refl
-carried-out-granted (call.Acknowledge m) s = refl
+carried-out-granted c s = is-granted c s .number
 
 module _ (c : Call) (s : System) where
   pub performed-number : values (performed c s .answer) .number ≡ first-of (numbered (checks c s))
@@ -104,6 +118,9 @@ module _ (c : Call) (s : System) where
   pub performed-granted : first-of (numbered (checks c s)) ≡ 0 → none-of (checks c s) × (performed c s ≡ carried-out c s)
   performed-granted =
       checks-law c s (λ n o. n ≡ 0 → none-of (checks c s) × (o ≡ carried-out c s)) (λ r e. absurd (refusal-told r .0 e)) (λ n e. (n, refl))
+
+  pub performed-irq : first-of (numbered (checks c s)) ≡ 0 → performed c s .irq ≡ irq (performed c s .system)
+  performed-irq e = rw (performed-granted e .1) (is-granted c s .asserted)
 
   pub refused-system : first-of (numbered (checks c s)) ≢ 0 → performed c s .system ≡ s
   unfolding refused

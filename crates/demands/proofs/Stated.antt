@@ -14,6 +14,7 @@ use borrow.Author.Tests.{eqb-true, eqb-false}
 use Rattle.chip.specs.Answer.{values, granted}
 use Rattle.chip.specs.Call.{performed}
 use Rattle.chip.specs.Clean.{Clean}
+use Rattle.registers.specs.Unit.{flag}
 use Rattle.chip.specs.System.{present}
 use Rattle.chip.specs.Load.{load}
 use Rattle.chip.specs.Translation.{direct-translation}
@@ -23,7 +24,7 @@ use Rattle.chip.specs.declared.answer.Reading.{Reading}
 use Rattle.chip.specs.declared.register.Operation.the-variants as operation
 use Rattle.chip.specs.declared.call.Call.{Call}
 use Rattle.chip.specs.declared.call.Call.the-variants as call
-use Rattle.chip.proofs.Checked.{performed-granted, refused-system}
+use Rattle.chip.proofs.Checked.{performed-granted, performed-irq, refused-system}
 use Rattle.chip.proofs.Counts.{counted-present}
 use Rattle.chip.proofs.Fit.{performed-fit}
 use Rattle.pieces.specs.Pieces.{Bytes}
@@ -55,7 +56,13 @@ stated c {b} h long m = record {
         ap read (refused-alone c b n .1) ∙ sym (refused-system c (read b) (rw (refusal-is c b, long) at n))
 
 pub demand-2 : Demand-2
-demand-2 = record { stated = λ {c} h long k. stated c h long (made k) }
+demand-2 = record {
+  stated = λ {c} h long k. stated c h long (made k);
+  irq-after = λ {c} {b = b} h k e.
+      let g = granted-told c b (rw (made k .answered) at e) in
+      let o = stated c h (g .long) (made k) in
+      o .fields .irq ∙ rw (o .registers) (ap flag (performed-irq c (read b) (g .none)));
+}
 
 -- ---- a bus access through C
 

@@ -8,9 +8,9 @@ use lib.Dec.{eqb}
 use Rattle.masks.specs.Fields.{bit}
 use Rattle.descriptors.specs.Status.{E}
 use Rattle.descriptors.specs.Descriptor.{enabled, pending, matches}
-use Rattle.registers.specs.Unit.{byte, ac, word, segment}
+use Rattle.registers.specs.Unit.{byte, ac, word, segment, flag}
 use Rattle.chip.specs.System.{present, unit, descriptor, pointed}
-use Rattle.chip.specs.Search.{matching}
+use Rattle.chip.specs.Search.{matching, irq}
 use Rattle.chip.specs.Answer.{values, violating, undefined, first-of}
 use Rattle.chip.specs.Call.{performed}
 use Rattle.chip.specs.Clean.{Clean}
@@ -56,6 +56,9 @@ pub record As-stated (o : Outcome) (answer : ℕ) (after : List ℕ) : Type 0 wh
 pub record Demand-2 : Type 0 where
   pub stated : {c : Call} {answer : ℕ} {b after : List ℕ} → Bytes b → short b ≡ false → Asks c b answer after
       → As-stated (performed c (read b)) answer after
+  -- 01: "An answer gives IRQ as it stands after the call."
+  pub irq-after : {c : Call} {answer : ℕ} {b after : List ℕ} → Bytes b → Asks c b answer after → refusal answer ≡ 0
+      → field.irq answer ≡ flag (irq (read after))
 
 -- ---- Demand 3
 
