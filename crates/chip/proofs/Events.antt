@@ -14,13 +14,13 @@ use borrow.Author.Tests.{eqb-true, eqb-false}
 use Rattle.descriptors.specs.Descriptor.{enabled, protected, collides, physical-page}
 use Rattle.descriptors.specs.declared.descriptor.Descriptor.{Descriptor}
 use Rattle.registers.specs.Unit.{WV, report, latch, translated, with-rw, word, ac, segment, for-load, for-translation}
-use Rattle.registers.specs.Shared.{entry}
+use Rattle.registers.specs.Shared.{entry, faulted}
 use Rattle.registers.specs.declared.unit.Unit.{Unit}
 use Rattle.registers.specs.declared.shared.Shared.{Shared}
 use Rattle.chip.specs.System.{present, unit, descriptor, pointed, with-units, with-shared, with-descriptor, with-unit, in-all}
 use Rattle.chip.specs.Search.{found, in-system, in-unit, matching}
 use Rattle.chip.specs.Answer.{violating, undefined as undefined-kind, values, refused, granted}
-use Rattle.chip.specs.Access.{reads, writes, read-half, fault, violation, undefined, match-at, translate-at, translate}
+use Rattle.chip.specs.Access.{reads-first, writes, read-half, fault, violation, undefined, match-at, translate-at, translate}
 use Rattle.chip.specs.Prepare.{prepare}
 use Rattle.chip.specs.Load.{blame, Collides-with, collision, load-at, load}
 use Rattle.chip.specs.Translation.{result-at, direct-translation}
@@ -83,22 +83,31 @@ violation-leaves page number m n s us h k l =
     one-more _ (λ u. report WV n (latch page number u)) (fault false s) (fault-six false s us) m k h l ∙ rw (fault-unit false s us k l) refl
 
 undefined-leaves : (cycle : Cycle) (page number : ℕ) (s : System) → Six s
-    → (k : ℕ) → k < present s → status (unit (undefined cycle page number s) k) ≡ leaves (event.undefined-access (reads cycle)) k (unit s k .rw)
+    → (k : ℕ) → k < present s → status (unit (undefined cycle page number s) k) ≡ leaves (event.undefined-access (reads-first cycle)) k (unit s k .rw)
 unfolding undefined fault with-shared with-units
 undefined-leaves cycle page number s us k h =
-    let t = fault (reads cycle) s in
-    let latched = done (latch page number) t (fault-six (reads cycle) s us) k h in
-    ap status (done _ (in-all (latch page number) t) (six _ t (fault-six (reads cycle) s us)) k h)
-    ∙ rw (latched, fault-unit (reads cycle) s us k h) refl
+    let t = fault (reads-first cycle) s in
+    let latched = done (latch page number) t (fault-six (reads-first cycle) s us) k h in
+    ap status (done _ (in-all (latch page number) t) (six _ t (fault-six (reads-first cycle) s us)) k h)
+    ∙ rw (latched, fault-unit (reads-first cycle) s us k h) refl
+
+-- each is counted once
+violation-counts : (page number m n : ℕ) (s : System) → violation page number m n s .shared .gsr ≡ faulted (s .shared .gsr)
+unfolding violation fault with-shared with-units
+violation-counts page number m n s = refl
+
+undefined-counts : (cycle : Cycle) (page number : ℕ) (s : System) → undefined cycle page number s .shared .gsr ≡ faulted (s .shared .gsr)
+unfolding undefined fault with-shared with-units
+undefined-counts cycle page number s = refl
 
 -- a bus access, by what it answers
 pub record Faults (cycle : Cycle) (s : System) (o : Outcome) : Type 0 where
   pub violating : values (o .answer) .kind ≡ violating
       → Left (event.write-violation (values (o .answer) .unit) (values (o .answer) .descriptor)) s (o .system)
-  pub undefined : values (o .answer) .kind ≡ undefined-kind → Left (event.undefined-access (reads cycle)) s (o .system)
+  pub undefined : values (o .answer) .kind ≡ undefined-kind → Left (event.undefined-access (reads-first cycle)) s (o .system)
 
 pub access-leaves : (code : ℕ) (cycle : Cycle) (address : ℕ) (s : System) → Six s → Faults cycle s (performed (call.Access code cycle address) s)
-unfolding translate translate-at match-at read-half violation undefined fault refused granted with-descriptor with-shared with-units
+unfolding translate translate-at match-at read-half refused granted with-descriptor
 access-leaves code cycle address s us =
     outcome-law (call.Access code cycle address) s (Faults cycle s) (λ r. record { violating = λ e. absurd (omega arith); undefined = λ e. absurd (omega arith) })
     (λ n. go (matching page number s) refl)
@@ -116,19 +125,19 @@ access-leaves code cycle address s us =
         → Left (event.write-violation (i / 32) (i % 32)) s (violation page number (i / 32) (i % 32) t) =
         λ t u h. record {
           units = λ k l. violation-leaves page number (i / 32) (i % 32) t (rw u us) (rw h there) k (rw h l);
-          gsr = rw h refl;
+          gsr = violation-counts page number (i / 32) (i % 32) t ∙ rw h refl;
         } in
         either (Faults cycle s) (writes cycle && protected (descriptor s i))
         (λ w. record {
           violating = λ v.
-              either (λ (t : System). Left (event.write-violation (i / 32) (i % 32)) s (violation page number (i / 32) (i % 32) t)) (reads cycle)
+              either (λ (t : System). Left (event.write-violation (i / 32) (i % 32)) s (violation page number (i / 32) (i % 32) t)) (reads-first cycle)
               (λ r. faulting _ refl refl) (λ r. faulting s refl refl);
           undefined = λ v. absurd (omega arith);
         })
         (λ w. record { violating = λ v. absurd (omega arith); undefined = λ v. absurd (omega arith) })
     go Nowhere e = record {
       violating = λ v. absurd (omega arith);
-      undefined = λ v. record { units = undefined-leaves cycle page number s us; gsr = refl };
+      undefined = λ v. record { units = undefined-leaves cycle page number s us; gsr = undefined-counts cycle page number s };
     }
 
 -- ---- 4.6.3.2: a load

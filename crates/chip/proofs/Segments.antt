@@ -37,7 +37,7 @@ module _ (i : ℕ) (s : System) (h : i < length (s .descriptors)) where
       → Accessed set i s (with-descriptor s i (with-ssr (descriptor s i) ssr))
   accessed set ssr r =
       let there = descriptor-there s i (with-ssr (descriptor s i) ssr) h in
-      record { status = rw there r; alone = rw there refl; elsewhere = λ k n. descriptor-elsewhere s i k _ n }
+      record { status = rw there r; fields = rw there refl; elsewhere = λ k n. descriptor-elsewhere s i k _ n }
 
   touch-accessed : (cycle : Cycle) → Accessed (sets cycle false) i s (touch cycle i s)
   touch-accessed cycle = accessed (sets cycle false) _ (touched-raised cycle (descriptor s i .ssr))
@@ -46,7 +46,7 @@ module _ (i : ℕ) (s : System) (h : i < length (s .descriptors)) where
   half-accessed : (cycle : Cycle) → writes cycle ≡ true → Accessed (sets cycle true) i s (read-half cycle i s)
   unfolding read-half
   half-accessed Read w = absurd (false≢true w)
-  half-accessed Write w = record { status = same-raised (descriptor s i .ssr); alone = refl; elsewhere = λ k n. refl }
+  half-accessed Write w = record { status = same-raised (descriptor s i .ssr); fields = refl; elsewhere = λ k n. refl }
   half-accessed ReadModifyWrite w = touch-accessed Read
 
 -- by what an access answers
@@ -55,14 +55,33 @@ pub record Segments (cycle : Cycle) (s : System) (o : Outcome) : Type 0 where
       → Accessed (sets cycle false) (32 * values (o .answer) .unit + values (o .answer) .descriptor) s (o .system)
   pub violating : values (o .answer) .kind ≡ violating
       → Accessed (sets cycle true) (32 * values (o .answer) .unit + values (o .answer) .descriptor) s (o .system)
-  pub undefined : values (o .answer) .kind ≡ undefined-kind → o .system .descriptors ≡ s .descriptors
+  pub missed : values (o .answer) .kind ≡ undefined-kind → o .system .descriptors ≡ s .descriptors
+
+match-segments : (i : ℕ) (cycle : Cycle) (page number offset : ℕ) (s : System) → i < length (s .descriptors)
+    → Segments cycle s (match-at i cycle page number offset s)
+unfolding match-at violation fault granted with-shared with-units
+match-segments i cycle page number offset s h =
+    let place : 32 * (i / 32) + i % 32 ≡ i = omega arith in
+    either (Segments cycle s) (writes cycle && protected (descriptor s i))
+    (λ w.
+    let half = half-accessed i s h cycle (and-eq-true-iff (writes cycle) (protected (descriptor s i)) .0 w .0) in
+    record {
+      mapped = λ k. absurd (omega arith);
+      violating = λ k. rw place (record { status = half .status; fields = half .fields; elsewhere = half .elsewhere });
+      missed = λ k. absurd (omega arith);
+    })
+    (λ w. record {
+      mapped = λ k. rw place (touch-accessed i s h cycle);
+      violating = λ k. absurd (omega arith);
+      missed = λ k. absurd (omega arith);
+    })
 
 pub access-segments : (code : ℕ) (cycle : Cycle) (address : ℕ) (s : System) → length (s .descriptors) ≡ 192
     → Segments cycle s (performed (call.Access code cycle address) s)
-unfolding translate translate-at match-at violation undefined fault refused granted with-shared with-units
+unfolding translate translate-at undefined fault refused granted with-shared with-units
 access-segments code cycle address s ds =
     outcome-law (call.Access code cycle address) s (Segments cycle s)
-    (λ r. record { mapped = λ e. absurd (omega arith); violating = λ e. absurd (omega arith); undefined = λ e. absurd (omega arith) })
+    (λ r. record { mapped = λ e. absurd (omega arith); violating = λ e. absurd (omega arith); missed = λ e. absurd (omega arith) })
     (λ n. go (matching page number s) refl)
   where
     page : ℕ
@@ -73,19 +92,5 @@ access-segments code cycle address s ds =
 
     go : (f : Found) → matching page number s ≡ f → Segments cycle s (translate-at f cycle page number (address % 256) s)
     go (At i) e =
-        let there : i < length (s .descriptors) = omega (arith, matching-found s page number i e .high) in
-        let place : 32 * (i / 32) + i % 32 ≡ i = omega arith in
-        either (Segments cycle s) (writes cycle && protected (descriptor s i))
-        (λ w.
-        let half = half-accessed i s there cycle (and-eq-true-iff (writes cycle) (protected (descriptor s i)) .0 w .0) in
-        record {
-          mapped = λ k. absurd (omega arith);
-          violating = λ k. rw place (record { status = half .status; alone = half .alone; elsewhere = half .elsewhere });
-          undefined = λ k. absurd (omega arith);
-        })
-        (λ w. record {
-          mapped = λ k. rw place (touch-accessed i s there cycle);
-          violating = λ k. absurd (omega arith);
-          undefined = λ k. absurd (omega arith);
-        })
-    go Nowhere e = record { mapped = λ k. absurd (omega arith); violating = λ k. absurd (omega arith); undefined = λ k. refl }
+        match-segments i cycle page number (address % 256) s (omega (arith, matching-found s page number i e .high))
+    go Nowhere e = record { mapped = λ k. absurd (omega arith); violating = λ k. absurd (omega arith); missed = λ k. refl }

@@ -17,10 +17,10 @@ use Rattle.chip.specs.declared.answer.Answer.the-variants.{Mapped, Viola
 use Rattle.chip.specs.declared.answer.Outcome.{Outcome}
 
 -- R/W as the cycle begins: high for a read, and for a read-modify-write, in which it falls later (4.5.3.2, item 3)
-abbrev pub reads : Cycle → Bool
-reads Read = true
-reads Write = false
-reads ReadModifyWrite = true
+abbrev pub reads-first : Cycle → Bool
+reads-first Read = true
+reads-first Write = false
+reads-first ReadModifyWrite = true
 
 -- R/W is low, at once or later
 abbrev pub writes : Cycle → Bool
@@ -37,7 +37,7 @@ touch cycle i s = with-descriptor s i (with-ssr (descriptor s i) (touched cycle 
 
 -- 4.5.3.2, item 3: a cycle that begins as a read has been translated as one before R/W falls
 unfoldable pub read-half : Cycle → (i : ℕ) → System → System
-read-half cycle i s = cond (reads cycle) (touch Read i s) s
+read-half cycle i s = cond (reads-first cycle) (touch Read i s) s
 
 -- 3.2.3, 3.2.4: on a fault F is set, DF if F was previously set; the state of R/W is latched in every unit
 unfoldable pub fault : (rw : Bool) → System → System
@@ -54,7 +54,7 @@ violation page number m n s =
 
 -- 4.5.3.7: an undefined segment access, which ends the cycle
 unfoldable pub undefined : Cycle → (page number : ℕ) → System → System
-undefined cycle page number s = in-all (report USA none) (in-all (latch page number) (fault (reads cycle) s))
+undefined cycle page number s = in-all (report USA none) (in-all (latch page number) (fault (reads-first cycle) s))
 
 -- 4.5.3.2: the descriptor at place i matches; WIN is reported when WP is set (2.23)
 unfoldable pub match-at : (i : ℕ) → Cycle → (page number offset : ℕ) → System → Outcome

@@ -22,5 +22,5 @@ sets ReadModifyWrite true = (true, false)
 -- from s to t the segment at place i has its status raised so, its other fields stay, and so does every other descriptor
 pub record Accessed (sets : Bool × Bool) (i : ℕ) (s t : System) : Type 0 where
   pub status : Raised sets (descriptor s i .ssr) (descriptor t i .ssr)
-  pub alone : descriptor t i ≡ with-ssr (descriptor s i) (descriptor t i .ssr)
+  pub fields : descriptor t i ≡ with-ssr (descriptor s i) (descriptor t i .ssr)
   pub elsewhere : (k : ℕ) → k ≢ i → descriptor t k ≡ descriptor s k

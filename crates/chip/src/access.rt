@@ -1,7 +1,7 @@
 // A bus access: normal address translation, and the two faults (handbook 4.5.3).
 ghost use mathlib.Core.Path.{_≡_};
 ghost use Prim.Native.Nat.{_+_, _*_, _<_};
-ghost use Rattle.chip.specs.Access.{reads, writes, touched, read-half, fault, violation, undefined, match-at, translate-at, translate};
+ghost use Rattle.chip.specs.Access.{reads-first, writes, touched, read-half, fault, violation, undefined, match-at, translate-at, translate};
 ghost use Rattle.chip.specs.Answer.{checked};
 ghost use Rattle.chip.specs.Call.{checks};
 ghost use Rattle.chip.specs.declared.call.Call.the-variants.{Access};
@@ -26,8 +26,8 @@ pub enum Cycle {
 
 impl Cycle {
     // R/W as the cycle begins.
-    fn reads(self) -> bool
-        ensures { λ r. ⌜ r ≡ reads self ⌝ }
+    fn reads_first(self) -> bool
+        ensures { λ r. ⌜ r ≡ reads-first self ⌝ }
     {
         match self {
             Cycle::Read => true,
@@ -89,7 +89,7 @@ impl System {
     fn undefined(self, cycle: Cycle, page: u16, number: u8) -> System
         ensures { λ r. ⌜ r ≡ undefined cycle page number self ⌝ }
     {
-        self.fault(cycle.reads())
+        self.fault(cycle.reads_first())
             .in_all(Change::Latch(page, number))
             .in_all(Change::Report(unit::USA, unit::NONE))
     }
@@ -99,7 +99,7 @@ impl System {
         requires { ⌜ i < 192 ⌝ }
         ensures { λ r. ⌜ r ≡ read-half cycle i self ⌝ }
     {
-        if cycle.reads() {
+        if cycle.reads_first() {
             let d = self.descriptors[i];
             self.descriptors[i] = d.with_ssr(Cycle::Read.touched(d.ssr));
         }

@@ -128,7 +128,7 @@ read-modify-write = record {
       rw (o .0 .registers, o .0 .fields .unit, o .0 .fields .descriptor) (o .1 .violating (sym (o .0 .fields .kind) ∙ e));
   finds-nothing = λ h a e.
       let o = segments h a (λ z. omega arith) in
-      rw (o .0 .registers) (o .1 .undefined (sym (o .0 .fields .kind) ∙ e));
+      rw (o .0 .registers) (o .1 .missed (sym (o .0 .fields .kind) ∙ e));
   others-write = λ {direction = direction} n m a w.
       made-alike (made (histories.access a)) (made (histories.access w)) (rw (writes-by direction n m) (refl, refl));
   registers-write = λ {direction = direction} {value} n a w.

@@ -8,7 +8,7 @@ use native.Mathlib.Omega.{arith}
 use lib.Dec.{eqb}
 use Rattle.descriptors.proofs.Clean.{pending-enabled}
 use Rattle.chip.specs.System.{descriptor}
-use Rattle.chip.specs.Access.{reads}
+use Rattle.chip.specs.Access.{reads-first}
 use Rattle.chip.specs.Call.{performed}
 use Rattle.chip.specs.declared.access.Cycle.the-variants as cycle
 use Rattle.chip.specs.declared.call.Call.the-variants as call
@@ -31,10 +31,10 @@ faulted : {code direction address r : ℕ} {b e : List ℕ} → Bytes b → Acce
 faulted {code} {direction} {address} {b = b} h k n =
     (accessed h k n, access-leaves code (cycle-by direction) address (read b) (read-clean b h .places .0))
 
-reads-by : (direction : ℕ) → reads (cycle-by direction) ≡ (eqb direction 0 || eqb direction 2)
+reads-by : (direction : ℕ) → reads-first (cycle-by direction) ≡ (eqb direction 0 || eqb direction 2)
 reads-by direction = go (eqb direction 0) (eqb direction 2)
   where
-    go : (b c : Bool) → reads (cond b cycle.Read (cond c cycle.ReadModifyWrite cycle.Write)) ≡ (b || c)
+    go : (b c : Bool) → reads-first (cond b cycle.Read (cond c cycle.ReadModifyWrite cycle.Write)) ≡ (b || c)
     go true c = refl
     go false true = refl
     go false false = refl

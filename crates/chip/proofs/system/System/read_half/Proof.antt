@@ -10,7 +10,7 @@ returns : tie.Need-returns
 unfolding read-half with-descriptor
 returns c =
     rw (
-      ← c .before .before .before .before .reads .ensures,
+      ← c .before .before .before .before .reads-first .ensures,
       c .before .before .before .if1 .taken,
       c .with-ssr .ensures,
       c .before .touched .ensures,
@@ -18,7 +18,7 @@ returns c =
 
 returns-2 : tie.Need-returns-2
 unfolding read-half
-returns-2 c = rw (← c .before .reads .ensures, c .if1 .left)
+returns-2 c = rw (← c .before .reads-first .ensures, c .if1 .left)
 
 pub read-half-spec : {M : Type 1} → statement M
 read-half-spec =

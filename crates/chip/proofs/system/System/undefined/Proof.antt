@@ -11,7 +11,7 @@ returns c =
       c .in-all2 .ensures,
       c .before .in-all .ensures,
       c .before .before .fault .ensures,
-      c .before .before .before .reads .ensures,
+      c .before .before .before .reads-first .ensures,
     )
 
 pub undefined-spec : {M : Type 1} → statement M
