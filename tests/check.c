@@ -354,7 +354,7 @@ static void undefined(void)
 }
 
 /* ------------------------------------------------------------------ */
-/* Read-modify-write (4.5.3.2, item 3; document 02, P1; ruling 12)     */
+/* Read-modify-write (4.5.3.2, item 3; document 02, P1; decision 104)  */
 /* ------------------------------------------------------------------ */
 
 /* Numbers that write in a bus access: 2 alone is a read-modify-write. */

@@ -394,7 +394,7 @@ static model_answer undefined_segment_access(model *m, bool write, uint16_t page
 
 /* 4.5.3.3 in the matching unit, 4.5.3.6 in the others.  U, M and IP stay.  The
  * others do so also after the read half of a read-modify-write, which 4.5.3.5
- * would have them pass over (ruling 12). */
+ * would have them pass over (decision 104). */
 static model_answer write_violation(model *m, unsigned unit, unsigned descriptor, uint16_t page, uint8_t number)
 {
     fault(m, true);

@@ -5,6 +5,7 @@
 --     checks-law           what holds of every refusal with its number, and with 0 where no check applies, holds of the call's outcome
 --                          with the table's number
 --     outcome-law, performed-law      so of the outcome alone, and of the system that the call leaves
+--     translate-law        what holds where a descriptor matches, and where none does, holds of an access
 --     carried-out-granted  past its checks a call is granted
 --     performed-number     the outcome tells the table's number
 --     performed-granted    where that is 0, the call is carried out
@@ -12,18 +13,19 @@
 --     refused-system       where it is not, the system is as it was
 --     refused-alike        and what the call would do makes no difference
 -- Assumes nothing.
-use Prim.Native.Nat.{ℕ, _<_, _^_}
+use Prim.Native.Nat.{ℕ, _+_, _*_, _/_, _%_, _<_, _^_}
 use mathlib.Core.Path.{_≡_, refl}
 use mathlib.Core.Logic.{_≢_}
 use mathlib.Core.Bool.{Bool, true, false, _&&_, cond}
 use mathlib.Core.List.{List, [], _∷_}
 use native.Mathlib.Omega.{arith}
 use lib.Dec.{lit<}
-use Rattle.descriptors.specs.Descriptor.{protected}
-use Rattle.chip.specs.System.{descriptor}
-use Rattle.chip.specs.Search.{irq}
+use Rattle.descriptors.specs.Descriptor.{protected, matches}
+use Rattle.registers.specs.Shared.{entry}
+use Rattle.chip.specs.System.{present, descriptor}
+use Rattle.chip.specs.Search.{matching, irq}
 use Rattle.chip.specs.Answer.{number, values, refused, granted, checked, first-of, numbered}
-use Rattle.chip.specs.Access.{writes, match-at, translate-at, translate}
+use Rattle.chip.specs.Access.{writes, undefined, match-at, translate-at, translate}
 use Rattle.chip.specs.Register.{operate}
 use Rattle.chip.specs.Call.{checks, carried-out, performed}
 use Rattle.chip.specs.declared.system.System.{System}
@@ -34,9 +36,12 @@ use Rattle.chip.specs.declared.register.Operation.the-variants as operat
 use Rattle.chip.specs.declared.answer.Refusal.{Refusal}
 use Rattle.chip.specs.declared.answer.Refusal.the-variants as refusal
 use Rattle.chip.specs.declared.answer.Answer.{Answer}
+use Rattle.chip.specs.declared.answer.Answer.the-variants.{Undefined}
 use Rattle.chip.specs.declared.answer.Outcome.{Outcome}
 use Rattle.chip.specs.declared.call.Call.{Call}
 use Rattle.chip.specs.declared.call.Call.the-variants as call
+use Rattle.chip.proofs.First.{First}
+use Rattle.chip.proofs.Once.{matching-found}
 
 pub either : {A : Type 0} (P : A → Type 0) (b : Bool) {x y : A} → (b ≡ true → P x) → (b ≡ false → P y) → P (cond b x y)
 either P true h k = h refl
@@ -78,6 +83,23 @@ module _ (c : Call) (s : System) where
   unfolding refused
   performed-law P h k = outcome-law (λ (o : Outcome). P (o .system)) (λ r. h) k
 
+pub translate-law : (code : ℕ) (cycle : Cycle) (address : ℕ) (s : System) (P : Outcome → Type 0)
+    → let page = address / 256 in let number = entry (s .shared) code in
+    ((i : ℕ) → First (λ k. matches (descriptor s k) page number) 0 (0 + 32 * present s) i → P (match-at i cycle page number (address % 256) s))
+    → P (granted Undefined (undefined cycle page number s)) → P (translate code cycle address s)
+unfolding translate translate-at
+translate-law code cycle address s P here nowhere = go (matching page number s) refl
+  where
+    page : ℕ
+    page = address / 256
+
+    number : ℕ
+    number = entry (s .shared) code
+
+    go : (f : Found) → matching page number s ≡ f → P (translate-at f cycle page number (address % 256) s)
+    go (At i) e = here i (matching-found s page number i e)
+    go Nowhere e = nowhere
+
 -- an answer that is no refusal, with IRQ as it stands in the system that is left
 record Is-granted (o : Outcome) : Type 0 where
   number : values (o .answer) .number ≡ 0
@@ -87,17 +109,14 @@ granted-is : (a : Answer) (s : System) → values a .number ≡ 0 → Is-granted
 unfolding granted
 granted-is a s e = record { number = e; asserted = refl }
 
-translated : (f : Found) (cycle : Cycle) (page number offset : ℕ) (s : System) → Is-granted (translate-at f cycle page number offset s)
-unfolding translate-at match-at
-translated (At i) cycle page number offset s =
-    either Is-granted (writes cycle && protected (descriptor s i)) (λ e. granted-is _ _ refl) (λ e. granted-is _ _ refl)
-translated Nowhere cycle page number offset s = granted-is _ _ refl
-
 is-granted : (c : Call) (s : System) → Is-granted (carried-out c s)
-unfolding translate operate
+unfolding operate match-at
 is-granted (call.Start count selected) s = granted-is _ _ refl
 is-granted (call.Reset selected) s = granted-is _ _ refl
-is-granted (call.Access code cycle address) s = translated _ cycle _ _ _ s
+is-granted (call.Access code cycle address) s =
+    translate-law code cycle address s Is-granted
+    (λ i f. either Is-granted (writes cycle && protected (descriptor s i)) (λ e. granted-is _ _ refl) (λ e. granted-is _ _ refl))
+    (granted-is _ _ refl)
 is-granted (call.Register m address operation.Read) s = granted-is _ _ refl
 is-granted (call.Register m address (operation.Write value)) s = granted-is _ _ refl
 is-granted (call.Acknowledge m) s = granted-is _ _ refl

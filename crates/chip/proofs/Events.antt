@@ -20,7 +20,7 @@ use Rattle.registers.specs.declared.shared.Shared.{Shared}
 use Rattle.chip.specs.System.{present, unit, descriptor, pointed, with-units, with-shared, with-descriptor, with-unit, in-all}
 use Rattle.chip.specs.Search.{found, in-system, in-unit, matching}
 use Rattle.chip.specs.Answer.{violating, undefined as undefined-kind, values, refused, granted}
-use Rattle.chip.specs.Access.{reads-first, writes, read-half, fault, violation, undefined, match-at, translate-at, translate}
+use Rattle.chip.specs.Access.{reads-first, writes, read-half, fault, violation, undefined, match-at}
 use Rattle.chip.specs.Prepare.{prepare}
 use Rattle.chip.specs.Load.{blame, Collides-with, collision, load-at, load}
 use Rattle.chip.specs.Translation.{result-at, direct-translation}
@@ -34,7 +34,7 @@ use Rattle.chip.specs.declared.search.Found.the-variants.{At, Nowhere}
 use Rattle.chip.specs.declared.answer.Reading.{Reading}
 use Rattle.chip.specs.declared.answer.Outcome.{Outcome}
 use Rattle.chip.specs.declared.call.Call.the-variants as call
-use Rattle.chip.proofs.Checked.{either, outcome-law}
+use Rattle.chip.proofs.Checked.{either, outcome-law, translate-law}
 use Rattle.chip.proofs.Each.{length-each}
 use Rattle.chip.proofs.First.{first-found, first-missed}
 use Rattle.chip.proofs.Parts.{each-unit, unit-there, unit-elsewhere}
@@ -107,38 +107,32 @@ pub record Faults (cycle : Cycle) (s : System) (o : Outcome) : Type 0 where
   pub undefined : values (o .answer) .kind ≡ undefined-kind → Left (event.undefined-access (reads-first cycle)) s (o .system)
 
 pub access-leaves : (code : ℕ) (cycle : Cycle) (address : ℕ) (s : System) → Six s → Faults cycle s (performed (call.Access code cycle address) s)
-unfolding translate translate-at match-at read-half refused granted with-descriptor
+unfolding match-at read-half refused granted with-descriptor
 access-leaves code cycle address s us =
+    let page = address / 256 in
+    let number = entry (s .shared) code in
     outcome-law (call.Access code cycle address) s (Faults cycle s) (λ r. record { violating = λ e. absurd (omega arith); undefined = λ e. absurd (omega arith) })
-    (λ n. go (matching page number s) refl)
-  where
-    page : ℕ
-    page = address / 256
-
-    number : ℕ
-    number = entry (s .shared) code
-
-    go : (f : Found) → matching page number s ≡ f → Faults cycle s (translate-at f cycle page number (address % 256) s)
-    go (At i) e =
-        let there : i / 32 < present s = omega (arith, matching-found s page number i e .high) in
-        let faulting : (t : System) → t .units ≡ s .units → t .shared ≡ s .shared
-        → Left (event.write-violation (i / 32) (i % 32)) s (violation page number (i / 32) (i % 32) t) =
-        λ t u h. record {
-          units = λ k l. violation-leaves page number (i / 32) (i % 32) t (rw u us) (rw h there) k (rw h l);
-          gsr = violation-counts page number (i / 32) (i % 32) t ∙ rw h refl;
-        } in
-        either (Faults cycle s) (writes cycle && protected (descriptor s i))
-        (λ w. record {
-          violating = λ v.
-              either (λ (t : System). Left (event.write-violation (i / 32) (i % 32)) s (violation page number (i / 32) (i % 32) t)) (reads-first cycle)
-              (λ r. faulting _ refl refl) (λ r. faulting s refl refl);
-          undefined = λ v. absurd (omega arith);
-        })
-        (λ w. record { violating = λ v. absurd (omega arith); undefined = λ v. absurd (omega arith) })
-    go Nowhere e = record {
+    (λ n.
+    translate-law code cycle address s (Faults cycle s)
+    (λ i f.
+    let violated : (t : System) → t .units ≡ s .units → t .shared ≡ s .shared
+    → Left (event.write-violation (i / 32) (i % 32)) s (violation page number (i / 32) (i % 32) t) =
+    λ t u h. record {
+      units = λ k l. violation-leaves page number (i / 32) (i % 32) t (rw u us) (rw h (omega (arith, f .high))) k (rw h l);
+      gsr = violation-counts page number (i / 32) (i % 32) t ∙ rw h refl;
+    } in
+    either (Faults cycle s) (writes cycle && protected (descriptor s i))
+    (λ w. record {
+      violating = λ v.
+          either (λ (t : System). Left (event.write-violation (i / 32) (i % 32)) s (violation page number (i / 32) (i % 32) t)) (reads-first cycle)
+          (λ r. violated _ refl refl) (λ r. violated s refl refl);
+      undefined = λ v. absurd (omega arith);
+    })
+    (λ w. record { violating = λ v. absurd (omega arith); undefined = λ v. absurd (omega arith) }))
+    (record {
       violating = λ v. absurd (omega arith);
       undefined = λ v. record { units = undefined-leaves cycle page number s us; gsr = undefined-counts cycle page number s };
-    }
+    }))
 
 -- ---- 4.6.3.2: a load
 

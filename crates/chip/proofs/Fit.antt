@@ -1,6 +1,5 @@
 -- Every value that a call answers fits its field of the 64-bit answer, so that nothing is cut off. Assumes nothing.
 use Prim.Native.Nat.{ℕ, _/_, _%_, _^_, _<_}
-use mathlib.Core.Path.{_≡_, refl}
 use mathlib.Core.Bool.{Bool, true, false, _&&_, cond}
 use native.Mathlib.Omega.{arith}
 use lib.Dec.{lit<}
@@ -13,7 +12,7 @@ use Rattle.chip.specs.System.{present, unit, descriptor, pointed, with-d
 use Rattle.chip.specs.Search.{number-of, in-unit, lip}
 use Rattle.chip.specs.Answer.{number, done, byte-read, mapped, violating, undefined, values, refused, granted, reading}
 use Rattle.chip.specs.Answer.{of-kind, with-number, with-address, with-place, with-byte}
-use Rattle.chip.specs.Access.{writes, match-at, translate-at, translate}
+use Rattle.chip.specs.Access.{writes, match-at}
 use Rattle.chip.specs.Transfer.{transfer}
 use Rattle.chip.specs.Load.{collision, load-at, load}
 use Rattle.chip.specs.Translation.{result-at, direct-translation}
@@ -33,9 +32,8 @@ use Rattle.chip.specs.declared.answer.Refusal.{Refusal}
 use Rattle.chip.specs.declared.answer.Answer.the-variants.{Byte}
 use Rattle.chip.specs.declared.answer.Outcome.{Outcome}
 use Rattle.chip.specs.declared.answer.Values.{Values}
-use Rattle.chip.proofs.Checked.{refusal-told, either, none-of, outcome-law}
+use Rattle.chip.proofs.Checked.{refusal-told, either, none-of, outcome-law, translate-law}
 use Rattle.chip.proofs.Counts.{counted-present}
-use Rattle.chip.proofs.Once.{matching-found}
 
 pub record Fit (v : Values) : Type 0 where
   pub number : v .number < 2 ^ 8
@@ -69,15 +67,13 @@ abbrev Fits : Outcome → Type 0
 Fits o = Fit (values (o .answer))
 
 -- 4.5.3: an access
-translate-fits : (f : Found) (cycle : Cycle) (page number offset : ℕ) (s : System) → offset < 2 ^ 8
-    → ((i : ℕ) → f ≡ At i → i < 192) → Fits (translate-at f cycle page number offset s)
-unfolding translate-at match-at granted
-translate-fits Nowhere cycle page number offset s o h = kind-fits undefined (lit< tt)
-translate-fits (At i) cycle page number offset s o h =
+match-fits : (i : ℕ) (cycle : Cycle) (page number offset : ℕ) (s : System) → offset < 2 ^ 8 → i < 192 → Fits (match-at i cycle page number offset s)
+unfolding match-at granted
+match-fits i cycle page number offset s o h =
     let d = descriptor s i in
     either Fits (writes cycle && protected d)
-    (λ e. place-fits i true _ (h i refl) (kind-fits violating (lit< tt)))
-    (λ e. address-fits _ _ (omega (arith, gate-fits 16 (d .lam) page (d .pba))) (place-fits i (protected d) _ (h i refl) (kind-fits mapped (lit< tt))))
+    (λ e. place-fits i true _ h (kind-fits violating (lit< tt)))
+    (λ e. address-fits _ _ (omega (arith, gate-fits 16 (d .lam) page (d .pba))) (place-fits i (protected d) _ h (kind-fits mapped (lit< tt))))
 
 -- 4.6.1: the byte of each register
 idp-fits : (f : Found) → number-of f < 2 ^ 8
@@ -113,7 +109,7 @@ read-fits registers.LoadDescriptor m s c h = load-fits _ _ _
 read-fits registers.Null m s c h = lit< tt
 
 pub performed-fit : (c : Call) (s : System) → Clean s → Fit (values (performed c s .answer))
-unfolding refused granted translate operate
+unfolding refused granted operate
 performed-fit c s k = outcome-law c s Fits (λ r. number-fits r _ (kind-fits 0 (lit< tt))) (go c)
   where
     read-byte : (byte : ℕ) → byte < 2 ^ 8 → Fit (values (Byte byte))
@@ -123,7 +119,8 @@ performed-fit c s k = outcome-law c s Fits (λ r. number-fits r _ (kind-fits 0 (
     go (call.Start count selected) n = kind-fits done (lit< tt)
     go (call.Reset selected) n = kind-fits done (lit< tt)
     go (call.Access code cycle address) n =
-        translate-fits _ cycle _ _ _ s (omega arith) (λ i e. omega (arith, matching-found s _ _ i e .high))
+        translate-law code cycle address s Fits (λ i f. match-fits i cycle _ _ _ s (omega arith) (omega (arith, f .high)))
+        (kind-fits undefined (lit< tt))
     go (call.Register m address operation.Read) n =
         read-byte _ (read-fits (register-at address) m s k (counted-present m (s .shared .board .count) (n .0) (n .1 .0)))
     go (call.Register m address (operation.Write value)) n = kind-fits done (lit< tt)

@@ -9,23 +9,18 @@ use lib.ListN.{length}
 use Rattle.descriptors.specs.Status.{used, Raised}
 use Rattle.descriptors.specs.Descriptor.{protected, with-ssr}
 use Rattle.descriptors.proofs.Raised.{used-raised, modified-raised, same-raised}
-use Rattle.registers.specs.Shared.{entry}
 use Rattle.chip.specs.System.{descriptor, with-units, with-shared, with-descriptor}
-use Rattle.chip.specs.Search.{matching}
 use Rattle.chip.specs.Answer.{mapped, violating, undefined as undefined-kind, values, refused, granted}
-use Rattle.chip.specs.Access.{writes, touched, touch, read-half, fault, violation, undefined, match-at, translate-at, translate}
+use Rattle.chip.specs.Access.{writes, touched, touch, read-half, fault, violation, undefined, match-at}
 use Rattle.chip.specs.Call.{performed}
 use Rattle.chip.specs.Segment.{sets, Accessed}
 use Rattle.chip.specs.declared.system.System.{System}
 use Rattle.chip.specs.declared.access.Cycle.{Cycle}
 use Rattle.chip.specs.declared.access.Cycle.the-variants.{Read, Write, ReadModifyWrite}
-use Rattle.chip.specs.declared.search.Found.{Found}
-use Rattle.chip.specs.declared.search.Found.the-variants.{At, Nowhere}
 use Rattle.chip.specs.declared.answer.Outcome.{Outcome}
 use Rattle.chip.specs.declared.call.Call.the-variants as call
-use Rattle.chip.proofs.Checked.{either, outcome-law}
+use Rattle.chip.proofs.Checked.{either, outcome-law, translate-law}
 use Rattle.chip.proofs.Parts.{descriptor-there, descriptor-elsewhere}
-use Rattle.chip.proofs.Once.{matching-found}
 
 touched-raised : (cycle : Cycle) (ssr : ℕ) → Raised (sets cycle false) ssr (touched cycle ssr)
 touched-raised Read ssr = used-raised ssr
@@ -78,19 +73,10 @@ match-segments i cycle page number offset s h =
 
 pub access-segments : (code : ℕ) (cycle : Cycle) (address : ℕ) (s : System) → length (s .descriptors) ≡ 192
     → Segments cycle s (performed (call.Access code cycle address) s)
-unfolding translate translate-at undefined fault refused granted with-shared with-units
+unfolding undefined fault refused granted with-shared with-units
 access-segments code cycle address s ds =
     outcome-law (call.Access code cycle address) s (Segments cycle s)
     (λ r. record { mapped = λ e. absurd (omega arith); violating = λ e. absurd (omega arith); missed = λ e. absurd (omega arith) })
-    (λ n. go (matching page number s) refl)
-  where
-    page : ℕ
-    page = address / 256
-
-    number : ℕ
-    number = entry (s .shared) code
-
-    go : (f : Found) → matching page number s ≡ f → Segments cycle s (translate-at f cycle page number (address % 256) s)
-    go (At i) e =
-        match-segments i cycle page number (address % 256) s (omega (arith, matching-found s page number i e .high))
-    go Nowhere e = record { mapped = λ k. absurd (omega arith); violating = λ k. absurd (omega arith); missed = λ k. refl }
+    (λ n.
+    translate-law code cycle address s (Segments cycle s) (λ i f. match-segments i cycle _ _ _ s (omega (arith, f .high)))
+    (record { mapped = λ k. absurd (omega arith); violating = λ k. absurd (omega arith); missed = λ k. refl }))

@@ -22,7 +22,7 @@ reads-first Read = true
 reads-first Write = false
 reads-first ReadModifyWrite = true
 
--- R/W is low, at once or later
+-- R/W is low, as the cycle begins or later
 abbrev pub writes : Cycle → Bool
 writes Read = false
 writes Write = true
@@ -32,6 +32,7 @@ writes ReadModifyWrite = true
 abbrev pub touched : Cycle → (ssr : ℕ) → ℕ
 touched cycle ssr = cond (writes cycle) (modified (used ssr)) (used ssr)
 
+-- so it is with the segment at place i
 abbrev pub touch : Cycle → (i : ℕ) → System → System
 touch cycle i s = with-descriptor s i (with-ssr (descriptor s i) (touched cycle (descriptor s i .ssr)))
 

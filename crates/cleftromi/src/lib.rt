@@ -12,7 +12,7 @@ use chip::reset::Selected;
 // "None" for a unit.
 const NONE: u64 = 255;
 
-// The directions that do not write, and of a bus access the one that does both.
+// The direction that reads, and of a bus access that of a read-modify-write; any other number writes.
 const READ: u64 = 0;
 
 const MODIFY: u64 = 2;

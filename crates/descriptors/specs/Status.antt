@@ -61,5 +61,5 @@ rewritten old value = cond (bit old E) (clean value) (disabled value)
 pub record Raised (sets : Bool × Bool) (before after : ℕ) : Type 0 where
   pub u : bit after U ≡ (bit before U || sets .0)
   pub m : bit after M ≡ (bit before M || sets .1)
-  pub ip : bit after IP ≡ (bit before IP || sets .0 && bit before I)
+  pub ip : bit after IP ≡ (bit before IP || (sets .0 && bit before I))
   pub others : (k : ℕ) → k < 8 → k ≢ U → k ≢ M → k ≢ IP → bit after k ≡ bit before k

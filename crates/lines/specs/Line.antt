@@ -1,4 +1,4 @@
--- What a line of the bench means: document 01, "The bench program". A line is its bytes without the line feed.
+-- What a line of the bench means: document 01, "The bench program"; M of 02, P1. A line is its bytes without the line feed.
 use Prim.Native.Nat.{ℕ, _+_, _*_}
 use mathlib.Core.Bool.{Bool, true, false, _&&_, _||_, cond}
 use mathlib.Core.List.{List, [], _∷_}
