@@ -32,7 +32,7 @@ writes ReadModifyWrite = true
 abbrev pub touched : Cycle → (ssr : ℕ) → ℕ
 touched cycle ssr = cond (writes cycle) (modified (used ssr)) (used ssr)
 
--- so it is with the segment at place i
+-- a successful translation by the descriptor at place i
 abbrev pub touch : Cycle → (i : ℕ) → System → System
 touch cycle i s = with-descriptor s i (with-ssr (descriptor s i) (touched cycle (descriptor s i .ssr)))
 

@@ -32,8 +32,8 @@ Status = ℕ × ℕ × Bool
 abbrev pub status : Unit → Status
 status u = (u .l, u .rdp, u .rw)
 
--- The table: what unit k has after the event, which finds `rw` there: the unit concerned, and every other. A fault latches RW, 1 for
--- a read, in all units; a load and a direct translation leave it
+-- The table: what unit k has after the event, which finds `rw` there: the unit concerned, and every other. A fault latches R/W in all
+-- units, low for a violation; a load and a direct translation leave it
 abbrev pub leaves : Event → (k : ℕ) (rw : Bool) → Status
 leaves (write-violation m n) k rw = cond (eqb k m) (WV, n, false) (NO, none, false)
 leaves (undefined-access reads) k rw = (USA, none, reads)

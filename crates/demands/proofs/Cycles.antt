@@ -43,9 +43,9 @@ module _ (code address : ℕ) (b : List ℕ) where
   by cycle = call.Access code cycle address
 
   -- the checks of an access do not ask for its cycle, and a refusal does nothing else
-  refused-alike : (c d : Cycle) → refusal (answer (by c) b) ≢ 0 → Alike (by c) (by d) b b
+  refused-by-any : (c d : Cycle) → refusal (answer (by c) b) ≢ 0 → Alike (by c) (by d) b b
   unfolding by
-  refused-alike c d n =
+  refused-by-any c d n =
       let same : refusal (answer (by c) b) ≡ refusal (answer (by d) b) = refusal-is (by c) b ∙ sym (refusal-is (by d) b) in
       let r = refused-alone (by c) b n in
       let q = refused-alone (by d) b (rw same at n) in
@@ -66,7 +66,7 @@ module _ (code address : ℕ) (b : List ℕ) where
               rw (long-answer (by cycle.ReadModifyWrite) b long, long-answer (by cycle.Read) b long, same) refl,
               rw (long-after (by cycle.ReadModifyWrite) b long, long-after (by cycle.Read) b long, same) refl,
             )
-        go false q = refused-alike cycle.ReadModifyWrite cycle.Read (eqb-false _ _ q)
+        go false q = refused-by-any cycle.ReadModifyWrite cycle.Read (eqb-false _ _ q)
 
     halves-alike : kind (answer (by cycle.ReadModifyWrite) b) ≢ undefined
         → Alike (by cycle.ReadModifyWrite) (by cycle.Write) b (after (by cycle.Read) b)
@@ -90,9 +90,9 @@ module _ (code address : ℕ) (b : List ℕ) where
             )
         go false q =
             let n = eqb-false _ _ q in
-            let same = refused-alike cycle.ReadModifyWrite cycle.Read n in
+            let same = refused-by-any cycle.ReadModifyWrite cycle.Read n in
             let stays : after (by cycle.Read) b ≡ b = sym (same .1) ∙ refused-alone c b n .1 in
-            rw stays (refused-alike cycle.ReadModifyWrite cycle.Write n)
+            rw stays (refused-by-any cycle.ReadModifyWrite cycle.Write n)
 
 -- ---- the numbers of a direction
 
