@@ -22,6 +22,7 @@ use Rattle.block.specs.Layout.{short, read}
 use Rattle.block.proofs.Tidy.{read-clean}
 use Rattle.cleftromi.specs.Interface.{cycle-by, operation-by, answer, after}
 use Rattle.cleftromi.specs.Fields.{refusal, kind}
+use Rattle.cleftromi.proofs.Directions.{writes-by}
 use Rattle.cleftromi.proofs.Blocks.{long-answer, long-after, refusal-is, refused-alone, Granted, granted-told, in-a-row}
 use Rattle.demands.specs.Histories as histories
 use Rattle.demands.specs.Histories.{Access}
@@ -95,9 +96,6 @@ module _ (code address : ℕ) (b : List ℕ) where
             rw stays (refused-by-any cycle.ReadModifyWrite cycle.Write n)
 
 -- ---- the numbers of a direction
-
-writes-by : (direction : ℕ) → direction ≢ 0 → direction ≢ 2 → cycle-by direction ≡ cycle.Write
-writes-by direction n m = rw (ne-eqb _ _ n, ne-eqb _ _ m) refl
 
 operation-writes : (direction value : ℕ) → direction ≢ 0 → operation-by direction value ≡ operation-by 1 value
 operation-writes direction value n = rw (ne-eqb _ _ n) refl
