@@ -3,7 +3,7 @@
 --     system-back      a system in clean form is what its written form reads as, whatever follows
 -- Assumes nothing.
 use Prim.Native.Nat.{ℕ, _*_, _-_, _%_, _<_, _≤_}
-use mathlib.Core.Path.{_≡_, refl, sym, ap}
+use mathlib.Core.Path.{_≡_, refl, sym, ap, subst}
 use mathlib.Core.Bool.{Bool}
 use mathlib.Core.List.{List, _++_, append-assoc}
 use native.Mathlib.Omega.{arith}
@@ -12,11 +12,12 @@ use lib.Seq.{take-at, drop-at, drop-drop}
 use lib.Dec.{lit<}
 use borrow.Author.Tests.{le-ltb}
 use Rattle.masks.proofs.Bits.{bit-field}
-use Rattle.pieces.specs.Pieces.{pieces}
+use Rattle.pieces.specs.Pieces.{list-of, pieces}
 use Rattle.pieces.proofs.Bytes.{word-back}
 use Rattle.pieces.proofs.Parts.{length-pieces, pieces-at}
+use Rattle.pieces.proofs.Stores.{listed}
 use Rattle.descriptors.specs.Descriptor.{zeros}
-use Rattle.registers.specs.Unit.{local, byte, marks, no-unit}
+use Rattle.registers.specs.Unit.{local, byte, marks, accumulator-of, no-unit}
 use Rattle.registers.proofs.Back.{held-l, held-rw, gsr-back}
 use Rattle.chip.specs.Reset.{blank}
 use Rattle.descriptors.specs.declared.descriptor.Descriptor.{Descriptor}
@@ -24,10 +25,10 @@ use Rattle.registers.specs.declared.unit.Byte.{Byte}
 use Rattle.registers.specs.declared.unit.Unit.{Unit}
 use Rattle.registers.specs.declared.shared.Shared.{Shared}
 use Rattle.chip.specs.declared.system.System.{System}
-use Rattle.block.specs.Layout.{size, unit-place, descriptor-place, nine, unit-bytes, descriptor-bytes, shared-bytes, form}
+use Rattle.block.specs.Layout.{size, unit-place, descriptor-place, unit-bytes, descriptor-bytes, shared-bytes, form}
 use Rattle.block.specs.Layout.{unit-of, descriptor-of, shared-of, system-of, read}
 use Rattle.chip.specs.System.{present, unit, descriptor, each}
-use Rattle.block.proofs.Lists.{filled-is}
+use Rattle.chip.proofs.Each.{filled-is}
 use Rattle.descriptors.specs.Clean.{Clean-descriptor}
 use Rattle.registers.specs.Clean.{Clean-unit, Clean-shared}
 use Rattle.chip.specs.Clean.{Clean}
@@ -36,12 +37,11 @@ pub descriptor-back : (d : Descriptor) (r : List ℕ) → Clean-descriptor d →
 unfolding descriptor-of descriptor-bytes
 descriptor-back d r c = rw (word-back (d .lba), word-back (d .lam), word-back (d .pba), c .ssr)
 
-nine-of : (l : List Byte) → length l ≡ 9 → nine (λ i. getD l i (local 0)) ≡ l
-unfolding each
-nine-of l e = filled-is (local 0) 9 9 (λ i. getD l i (local 0)) (local 0) l e (λ i h k. refl) (λ i h k. absurd (omega arith))
+nine-of : (l : List Byte) → length l ≡ 9 → list-of 9 (λ i. getD l i (local 0)) ≡ l
+nine-of l e = subst (λ (n : ℕ). list-of n (λ i. getD l i (local 0)) ≡ l) e (listed (local 0) l)
 
 pub unit-back : (u : Unit) (r : List ℕ) → Clean-unit u → unit-of (unit-bytes u ++ r) ≡ u
-unfolding unit-of unit-bytes marks
+unfolding unit-of unit-bytes accumulator-of marks
 unit-back u r c =
     let global : ℕ → Bool = λ i. byte u i .global in
     let five : u .dp % 32 ≡ u .dp = omega (arith, c .dp) in

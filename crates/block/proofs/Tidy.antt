@@ -12,21 +12,22 @@ use lib.Dec.{ltb, lit<}
 use lib.ListN.{length, drop, getD, replicate, length-drop, length-take, length-replicate, getD-replicate, List·getD-eq-default}
 use lib.Seq.{drop-at}
 use borrow.Author.Tests.{ltb-true, ltb-false}
-use Rattle.pieces.specs.Pieces.{Bytes}
+use Rattle.pieces.specs.Pieces.{Bytes, list-of, low-first-at}
 use Rattle.pieces.proofs.Bytes.{bytes-drop, bytes-take, word-fits}
+use Rattle.pieces.proofs.Stores.{at-listed}
 use Rattle.descriptors.specs.Descriptor.{zeros}
-use Rattle.registers.specs.Unit.{local, no-unit, ac}
+use Rattle.registers.specs.Unit.{local, marked, accumulator-of, no-unit, ac}
 use Rattle.registers.specs.Shared.{entry}
 use Rattle.chip.specs.System.{each}
 use Rattle.chip.specs.Reset.{blank, nothing}
 use Rattle.descriptors.proofs.Clean.{clean-twice}
 use Rattle.registers.proofs.Clean.{rdp-twice}
 use Rattle.chip.proofs.Clean.{nothing-clean}
-use Rattle.chip.proofs.Each.{each-at, each-past, length-each}
+use Rattle.chip.proofs.Each.{filled-below, filled-past, length-filled}
 use Rattle.descriptors.specs.declared.descriptor.Descriptor.{Descriptor}
 use Rattle.registers.specs.declared.unit.Unit.{Unit}
 use Rattle.chip.specs.declared.system.System.{System}
-use Rattle.block.specs.Layout.{size, unit-place, descriptor-place, nine, byte-of, form, written}
+use Rattle.block.specs.Layout.{size, unit-place, descriptor-place, form, written}
 use Rattle.block.specs.Layout.{unit-of, descriptor-of, shared-of, system-of, read}
 use Rattle.descriptors.specs.Clean.{Clean-descriptor}
 use Rattle.registers.specs.Clean.{Clean-unit, Clean-shared}
@@ -45,19 +46,19 @@ clean-descriptor b h = record {
 }
 
 in-nine : (b : List ℕ) → Bytes b → (i : ℕ) → ac (unit-of b) i < 2 ^ 8
-unfolding unit-of each
+unfolding unit-of accumulator-of
 in-nine b h i = go (ltb i 9) refl
   where
-    go : (t : Bool) → ltb i 9 ≡ t → getD (each 9 (λ k x. byte-of b k) (replicate 9 (local 0))) i (local 0) .value < 2 ^ 8
+    go : (t : Bool) → ltb i 9 ≡ t → ac (unit-of b) i < 2 ^ 8
     go true q =
         let l : i < 9 = ltb-true i 9 q in
-        rw (each-at (local 0) 9 (λ k x. byte-of b k) (replicate 9 (local 0)) i l l) (h i)
+        rw (at-listed (local 0) 9 (λ k. marked (getD (list-of 9 (λ j. getD b j 0)) k 0) (low-first-at b 9) k) i l, at-listed 0 9 (λ j. getD b j 0) i l) (h i)
     go false q =
         let l : 9 ≤ i = ltb-false i 9 q in
-        rw (List·getD-eq-default (nine (byte-of b)) (local 0) {n = i} l) (lit< tt)
+        rw (List·getD-eq-default (unit-of b .accumulator) (local 0) {n = i} l) (lit< tt)
 
 clean-unit : (b : List ℕ) → Bytes b → Clean-unit (unit-of b)
-unfolding unit-of
+unfolding unit-of accumulator-of
 clean-unit b h = record {
   bytes = refl;
   ac = in-nine b h;
@@ -75,25 +76,8 @@ clean-shared b l h = record {
   count = h 0;
 }
 
--- what stands in an array whose first n elements were read
-module _ {A : Type 0} (d : A) (n k : ℕ) (g : ℕ → A) (z : A) where
-  filled : List A
-  filled = each n (λ i x. g i) (replicate k z)
-
-  filled-below : (i : ℕ) → i < n → i < k → getD filled i d ≡ g i
-  unfolding filled
-  filled-below i l h = each-at d n (λ i x. g i) (replicate k z) i l (rw length-replicate h)
-
-  filled-past : (i : ℕ) → n ≤ i → i < k → getD filled i d ≡ z
-  unfolding filled
-  filled-past i l h = each-past d n (λ i x. g i) (replicate k z) i l ∙ getD-replicate k i z d h
-
-  length-filled : length filled ≡ k
-  unfolding filled
-  length-filled = length-each n (λ i x. g i) (replicate k z) ∙ length-replicate k z
-
 clean-system : (b : List ℕ) → size ≤ length b → Bytes b → Clean (system-of b)
-unfolding system-of shared-of filled
+unfolding system-of shared-of
 clean-system b l h =
     let n = min (getD b 0 0) 6 in
     let u : ℕ → Unit = λ m. unit-of (drop (unit-place m) b) in

@@ -4,15 +4,13 @@ use mathlib.Core.Bool.{Bool, cond}
 use mathlib.Core.List.{List, [], _∷_, _++_}
 use lib.Dec.{ltb}
 use lib.ListN.{length, take, drop, getD, replicate}
-use Rattle.masks.specs.Fields.{bit}
-use Rattle.pieces.specs.Pieces.{pieces, low-first, low-first-at}
+use Rattle.pieces.specs.Pieces.{list-of, pieces, low-first, low-first-at}
 use Rattle.descriptors.specs.Status.{clean}
-use Rattle.registers.specs.Unit.{rdp-of, l-of, rw-of, ac, marks, held-lsr}
+use Rattle.registers.specs.Unit.{rdp-of, l-of, rw-of, ac, marks, accumulator-of, held-lsr}
 use Rattle.registers.specs.Shared.{board, gsr-of, gsr-byte}
 use Rattle.chip.specs.System.{present, unit, descriptor, each}
 use Rattle.chip.specs.Reset.{nothing}
 use Rattle.descriptors.specs.declared.descriptor.Descriptor.{Descriptor}
-use Rattle.registers.specs.declared.unit.Byte.{Byte}
 use Rattle.registers.specs.declared.unit.Unit.{Unit}
 use Rattle.registers.specs.declared.shared.Shared.{Shared}
 use Rattle.chip.specs.declared.system.System.{System}
@@ -32,13 +30,9 @@ unit-place m = 32 + 16 * m
 abbrev pub descriptor-place : (i : ℕ) → ℕ
 descriptor-place i = 128 + 9 * i
 
--- f of each number from 0 to 8
-abbrev pub nine : {A : Type 0} → (ℕ → A) → List A
-nine f = f 0 ∷ f 1 ∷ f 2 ∷ f 3 ∷ f 4 ∷ f 5 ∷ f 6 ∷ f 7 ∷ f 8 ∷ []
-
 -- Writing. A unit in 16 bytes, a descriptor in nine, and what the units share in 32
 unfoldable pub unit-bytes : Unit → List ℕ
-unit-bytes u = nine (ac u) ++ low-first (marks u) ++ u .dp ∷ held-lsr u ∷ u .rdp ∷ 0 ∷ 0 ∷ []
+unit-bytes u = list-of 9 (ac u) ++ low-first (marks u) ++ u .dp ∷ held-lsr u ∷ u .rdp ∷ 0 ∷ 0 ∷ []
 
 unfoldable pub descriptor-bytes : Descriptor → List ℕ
 descriptor-bytes d = low-first (d .lba) ++ low-first (d .lam) ++ low-first (d .pba) ++ d .asn ∷ d .ssr ∷ d .asm ∷ []
@@ -59,14 +53,10 @@ form s =
 unfoldable pub written : (block : List ℕ) → System → List ℕ
 written b s = cond (short b) b (form s ++ drop size b)
 
--- Reading. Byte i of the accumulator, with its mark
-abbrev pub byte-of : List ℕ → (i : ℕ) → Byte
-byte-of b i = record { value = getD b i 0; global = bit (low-first-at b 9) i }
-
--- a unit's registers and a descriptor, from where they stand on
+-- Reading. A unit's registers and a descriptor, from where they stand on
 unfoldable pub unit-of : List ℕ → Unit
 unit-of b = record {
-  accumulator = nine (byte-of b);
+  accumulator = accumulator-of (list-of 9 (λ i. getD b i 0)) (low-first-at b 9);
   dp = getD b 11 0 % 32;
   rdp = rdp-of (getD b 13 0);
   l = l-of (getD b 12 0);

@@ -3,7 +3,7 @@ ghost use mathlib.Core.Path.{_≡_};
 ghost use Prim.Native.Nat.{_+_, _*_, _≤_, _<_, min};
 ghost use lib.ListN.{length, drop};
 ghost use Rattle.chip.specs.System.{each};
-ghost use Rattle.block.specs.Layout.{nine, byte-of, unit-place, unit-of, descriptor-of, shared-of, read};
+ghost use Rattle.block.specs.Layout.{unit-place, unit-of, descriptor-of, shared-of, read};
 use chip::system::System;
 use descriptors::descriptor::Descriptor;
 use descriptors::status;
@@ -11,7 +11,6 @@ use registers::shared::Board;
 use registers::shared::Gsr;
 use registers::shared::Shared;
 use registers::unit;
-use registers::unit::Byte;
 use registers::unit::Unit;
 
 // What a host lends.
@@ -24,31 +23,13 @@ pub(crate) fn present(count: usize) -> usize
     if count < 6 { count } else { 6 }
 }
 
-fn accumulator_of(b: &[u8]) -> [Byte; 9]
-    requires { ⌜ 16 ≤ length (now b) ⌝ }
-    ensures { λ r. ⌜ r ≡ nine (byte-of (now (b .entry))) ⌝ }
-{
-    let marks = pieces::join(b[10], b[9]);
-    let byte = Byte {
-        value: 0,
-        global: false,
-    };
-    let mut accumulator = [byte; 9];
-    for i in 0..9 {
-        accumulator[i] = Byte {
-            value: b[i],
-            global: (marks >> i) % 2 == 1,
-        };
-    }
-    accumulator
-}
-
 fn unit_of(b: &[u8]) -> Unit
     requires { ⌜ 16 ≤ length (now b) ⌝ }
     ensures { λ r. ⌜ r ≡ unit-of (now (b .entry)) ⌝ }
 {
+    let values = [b[0], b[1], b[2], b[3], b[4], b[5], b[6], b[7], b[8]];
     Unit {
-        accumulator: accumulator_of(b),
+        accumulator: unit::accumulator_of(values, pieces::join(b[10], b[9])),
         dp: b[11] % 32,
         rdp: unit::rdp_of(b[13]),
         l: unit::l_of(b[12]),

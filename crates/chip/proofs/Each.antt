@@ -1,10 +1,17 @@
--- Laws of `each`: a loop that replaces one element after the other makes it; and of a store. Assumes nothing.
+-- Laws of `each`: a loop that replaces one element after the other makes it, or fills an array from the front.
+--     each-more, each-at, each-past, length-each, each-related     what is done to each of the first n
+--     filled, filled-is, filled-below, filled-past, length-filled     an array whose first n elements are put in
+-- Assumes nothing.
 use Prim.Native.Nat.{ℕ, zero, suc, _+_, _<_, _≤_}
-use mathlib.Core.Path.{_≡_, refl, ap}
+use mathlib.Core.Path.{_≡_, refl, sym, ap, _∙_}
+use mathlib.Core.Bool.{Bool, true, false}
 use mathlib.Core.List.{List, [], _∷_}
 use native.Mathlib.Nat.{le-of-suc-le-suc, not-suc-le-zero}
 use native.Mathlib.Numerals.{add-one}
-use lib.ListN.{length, getD, set}
+use lib.Dec.{ltb}
+use lib.ListN.{length, getD, set, replicate, length-replicate, getD-replicate}
+use lib.Seq.{ext-getD}
+use borrow.Author.Tests.{ltb-true, ltb-false}
 use Rattle.chip.specs.System.{each}
 
 module _ {A : Type 0} (d : A) where
@@ -48,3 +55,40 @@ each-related R d (suc n) f [] q h k l = q
 each-related R d (suc n) f (x ∷ xs) q h zero l = h 0 x
 each-related R d (suc n) f (x ∷ xs) q h (suc k) l =
     each-related R d n (λ i. f (suc i)) xs q (λ i. h (suc i)) k (le-of-suc-le-suc l)
+
+-- ---- an array that is filled, one element after the other
+
+module _ {A : Type 0} where
+  -- a loop that puts one element after the other
+  pub filled : (d : A) (i : ℕ) (g : ℕ → A) (xs ys : List A) (v : A) → ys ≡ each i (λ k x. g k) xs → v ≡ g i
+      → set ys i v ≡ each (i + 1) (λ k x. g k) xs
+  filled d i g xs ys v p q = rw (p, q) (each-more d i (λ k x. g k) xs)
+
+  -- an array whose first n elements come from g, and the others are z
+  pub filled-is : (d : A) (n k : ℕ) (g : ℕ → A) (z : A) (l : List A) → length l ≡ k
+      → ((i : ℕ) → i < n → i < k → g i ≡ getD l i d) → ((i : ℕ) → n ≤ i → i < k → z ≡ getD l i d)
+      → each n (λ i x. g i) (replicate k z) ≡ l
+  filled-is d n k g z l e below past =
+      ext-getD d (each n (λ i x. g i) (replicate k z)) l (size ∙ sym e) (λ i h. at i (rw size at h) (ltb i n) refl)
+    where
+      size : length (each n (λ i x. g i) (replicate k z)) ≡ k
+      size = length-each n (λ i x. g i) (replicate k z) ∙ length-replicate k z
+
+      at : (i : ℕ) → i < k → (t : Bool) → ltb i n ≡ t → getD (each n (λ i x. g i) (replicate k z)) i d ≡ getD l i d
+      at i h true q =
+          let b : i < n = ltb-true i n q in
+          each-at d n (λ i x. g i) (replicate k z) i b (rw length-replicate h) ∙ below i b h
+      at i h false q =
+          let p : n ≤ i = ltb-false i n q in
+          each-past d n (λ i x. g i) (replicate k z) i p ∙ getD-replicate k i z d h ∙ past i p h
+
+-- an array whose first n elements come from g, and the others are z: what stands in it
+module _ {A : Type 0} (d : A) (n k : ℕ) (g : ℕ → A) (z : A) where
+  pub filled-below : (i : ℕ) → i < n → i < k → getD (each n (λ i x. g i) (replicate k z)) i d ≡ g i
+  filled-below i l h = each-at d n (λ i x. g i) (replicate k z) i l (rw length-replicate h)
+
+  pub filled-past : (i : ℕ) → n ≤ i → i < k → getD (each n (λ i x. g i) (replicate k z)) i d ≡ z
+  filled-past i l h = each-past d n (λ i x. g i) (replicate k z) i l ∙ getD-replicate k i z d h
+
+  pub length-filled : length (each n (λ i x. g i) (replicate k z)) ≡ k
+  length-filled = length-each n (λ i x. g i) (replicate k z) ∙ length-replicate k z

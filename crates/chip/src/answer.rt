@@ -144,7 +144,7 @@ impl Answer {
 }
 
 // Refusal 1.
-pub(crate) fn miscounted(count: usize) -> bool
+pub fn miscounted(count: usize) -> bool
     ensures { λ r. ⌜ r ≡ miscounted count ⌝ }
 {
     (count == 0) | (count > 6)
@@ -161,7 +161,7 @@ impl System {
         }
     }
 
-    pub(crate) fn granted(self, answer: Answer) -> Outcome
+    pub fn granted(self, answer: Answer) -> Outcome
         ensures { λ r. ⌜ r ≡ granted answer self ⌝ }
     {
         Outcome {

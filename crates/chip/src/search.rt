@@ -26,7 +26,7 @@ impl Sought {
     {
         match self {
             Sought::Match(page, number) => e.matches(page, number),
-            Sought::Clash(d) => e.enabled() && d.clashes(e),
+            Sought::Clash(d) => d.collides(e),
             Sought::Pending => e.pending(),
         }
     }

@@ -15,7 +15,7 @@ pub struct System {
 }
 
 impl System {
-    pub(crate) fn present(self) -> usize
+    pub fn present(self) -> usize
         ensures { λ r. ⌜ r ≡ present self ⌝ }
     {
         let count = self.shared.board.count;

@@ -1,7 +1,7 @@
 // A descriptor: a memory segment and how it is mapped to physical addresses (handbook 3.1).
 ghost use mathlib.Core.Path.{_≡_};
 ghost use Rattle.descriptors.specs.Descriptor.{enabled, protected, pending, with-ssr, bytes};
-ghost use Rattle.descriptors.specs.Descriptor.{range-match, space-match, matches, physical-page, clashes};
+ghost use Rattle.descriptors.specs.Descriptor.{range-match, space-match, matches, physical-page, clashes, collides};
 use crate::status;
 use masks::byte;
 use masks::word;
@@ -91,10 +91,17 @@ impl Descriptor {
     }
 
     // 4.6.3.2. E counts as set in both: a load asks before it enables.
-    pub fn clashes(self, other: Descriptor) -> bool
+    fn clashes(self, other: Descriptor) -> bool
         ensures { λ r. ⌜ r ≡ clashes self other ⌝ }
     {
         word::clash(self.lam, self.lba, other.lam, other.lba)
             && byte::clash(self.asm, self.asn, other.asm, other.asn)
+    }
+
+    // 4.6.3.2: only an enabled descriptor causes a collision.
+    pub fn collides(self, other: Descriptor) -> bool
+        ensures { λ r. ⌜ r ≡ collides self other ⌝ }
+    {
+        other.enabled() && self.clashes(other)
     }
 }

@@ -4,7 +4,7 @@ use mathlib.Core.Bool.{Bool, true, false, _&&_, cond}
 use mathlib.Core.List.{List, [], _∷_, map}
 use lib.ListN.{getD, set}
 use Rattle.masks.specs.Fields.{bit, field}
-use Rattle.pieces.specs.Pieces.{join}
+use Rattle.pieces.specs.Pieces.{join, list-of}
 use Rattle.descriptors.specs.Status.{clean}
 use Rattle.descriptors.specs.Descriptor.{bytes}
 use Rattle.descriptors.specs.declared.descriptor.Descriptor.{Descriptor}
@@ -67,6 +67,13 @@ ac u i = byte u i .value
 -- 3.2.4: the nine marks as a number, AC0's in bit 0
 unfoldable pub marks : Unit → ℕ
 marks u = field 9 (λ i. byte u i .global)
+
+-- byte i, with its mark from such a number; and the accumulator of nine bytes
+abbrev pub marked : (value marks i : ℕ) → Byte
+marked value marks i = record { value = value; global = bit marks i }
+
+unfoldable pub accumulator-of : (values : List ℕ) (marks : ℕ) → List Byte
+accumulator-of values marks = list-of 9 (λ i. marked (getD values i 0) marks i)
 
 -- The unit with one of its registers changed.
 abbrev pub with-accumulator : Unit → List Byte → Unit

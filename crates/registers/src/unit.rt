@@ -1,7 +1,7 @@
 // The registers that a unit has of its own: accumulator, descriptor pointers, local status (handbook 3.2.2 to 3.2.6).
 ghost use mathlib.Core.Path.{_≡_};
 ghost use Prim.Native.Nat.{_<_};
-ghost use Rattle.registers.specs.Unit.{rdp-of, l-of, rw-of, local, ac, marks, word, segment, needed, consistent, for-translation, for-load};
+ghost use Rattle.registers.specs.Unit.{marked, accumulator-of, rdp-of, l-of, rw-of, local, ac, marks, word, segment, needed, consistent, for-translation, for-load};
 ghost use Rattle.registers.specs.Unit.{with-byte, with-dp, with-rdp, with-l, with-rw, report, latch, take};
 ghost use Rattle.registers.specs.Unit.{translated, held-lsr, lsr};
 ghost use Rattle.registers.specs.Change.{changed};
@@ -82,6 +82,33 @@ fn local(value: u8) -> Byte
         value,
         global: false,
     }
+}
+
+fn marked(value: u8, marks: u16, i: usize) -> Byte
+    requires { ⌜ i < 9 ⌝ }
+    ensures { λ r. ⌜ r ≡ marked value marks i ⌝ }
+{
+    Byte {
+        value,
+        global: (marks >> i) % 2 == 1,
+    }
+}
+
+// 3.2.2, 3.2.4: nine bytes, and their marks as `Unit::marks` has them.
+pub fn accumulator_of(values: [u8; 9], marks: u16) -> [Byte; 9]
+    ensures { λ r. ⌜ r ≡ accumulator-of values marks ⌝ }
+{
+    [
+        marked(values[0], marks, 0),
+        marked(values[1], marks, 1),
+        marked(values[2], marks, 2),
+        marked(values[3], marks, 3),
+        marked(values[4], marks, 4),
+        marked(values[5], marks, 5),
+        marked(values[6], marks, 6),
+        marked(values[7], marks, 7),
+        marked(values[8], marks, 8),
+    ]
 }
 
 impl Unit {

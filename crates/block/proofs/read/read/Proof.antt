@@ -13,7 +13,7 @@ use Rattle.chip.specs.declared.system.System.{System}
 use Rattle.chip.specs.System.{each}
 use Rattle.block.specs.Layout.{descriptor-place, descriptor-of, shared-of, system-of, read}
 use Rattle.pieces.proofs.Parts.{rest}
-use Rattle.block.proofs.Lists.{filled}
+use Rattle.chip.proofs.Each.{filled}
 use Rattle.masks.proofs.Free.{free}
 use Rattle.block.proofs.read.read.Statement.{statement}
 use Rattle.block.proofs.read.read.Tie as tie

@@ -1,16 +1,17 @@
 -- `unit_of` meets its contract: each register from its bytes. Assumes nothing.
 use borrow.Author.Needs.{needs}
 use Rattle.block.specs.Layout.{unit-of}
-use Rattle.masks.proofs.Free.{free}
 use Rattle.block.proofs.read.unit_of.Statement.{statement}
 use Rattle.block.proofs.read.unit_of.Tie as tie
 
 returns : tie.Need-returns
 unfolding unit-of
 returns c =
+    let called = c .before .before .before .before in
     rw (
-      c .before .before .before .before .before .before .before .accumulator-of .ensures,
-      c .before .before .before .before .rdp-of .ensures,
+      called .before .before .before .accumulator-of .ensures,
+      called .before .before .before .before .join .ensures,
+      called .rdp-of .ensures,
       c .before .before .l-of .ensures,
       c .rw-of .ensures,
     )
@@ -19,4 +20,8 @@ pub unit-of-spec : {M : Type 1} → statement M
 unit-of-spec =
     tie.close
     (tie.spec
-    (λ c κs. search needs) (λ c. search needs) (λ c. search needs) free (λ c. search needs) free (λ c. search needs) free returns)
+    (λ c. search needs) (λ c. search needs) (λ c. search needs) (λ c. search needs) (λ c. search needs)
+    (λ c. search needs) (λ c. search needs) (λ c. search needs) (λ c. search needs) (λ c. search needs)
+    (λ c. search needs) (λ c κs. search needs) (λ c κs. search needs) (λ c. search needs) (λ c. search needs)
+    (λ c κs. search needs) (λ c. search needs) (λ c κs. search needs) (λ c. search needs) (λ c κs. search needs)
+    returns)

@@ -7,7 +7,7 @@ use Rattle.registers.specs.Unit.{no-unit}
 use Rattle.chip.specs.System.{each}
 use Rattle.block.specs.Layout.{unit-place, unit-of}
 use Rattle.pieces.proofs.Parts.{rest}
-use Rattle.block.proofs.Lists.{filled}
+use Rattle.chip.proofs.Each.{filled}
 use Rattle.block.proofs.read.units_of.Statement.{statement}
 use Rattle.block.proofs.read.units_of.Tie as tie
 

@@ -1,6 +1,5 @@
 -- `Sought::answers` meets its contract: by what is sought. Assumes nothing.
 use borrow.Author.Needs.{needs}
-use Rattle.masks.proofs.Flags.{and-taken, and-left}
 use Rattle.masks.proofs.Free.{free}
 use Rattle.chip.proofs.search.Sought.answers.Statement.{statement}
 use Rattle.chip.proofs.search.Sought.answers.Tie as tie
@@ -9,21 +8,11 @@ returns : tie.Need-returns
 returns c = rw (c .before .before .self .given .1) (c .matches .ensures)
 
 returns-2 : tie.Need-returns-2
-returns-2 c =
-    rw (c .before .before .before .before .self2 .given .1)
-    (and-taken (c .before .before .enabled .ensures) (c .before .if1 .taken) (c .clashes .ensures))
+returns-2 c = rw (c .before .before .self2 .given .1) (c .collides .ensures)
 
 returns-3 : tie.Need-returns-3
-returns-3 c =
-    rw (c .before .before .before .self2 .given .1)
-    (and-left _ (c .before .enabled .ensures) (c .if1 .left))
-
-returns-4 : tie.Need-returns-4
-returns-4 c = rw (c .before .enum-told .given .1) (c .pending .ensures)
+returns-3 c = rw (c .before .enum-told .given .1) (c .pending .ensures)
 
 pub answers-spec : {M : Type 1} → statement M
 answers-spec =
-    tie.close
-    (tie.spec
-    (λ c. search needs) free (λ c. search needs) free free (λ c. search needs) free returns returns-2 returns-3
-    returns-4)
+    tie.close (tie.spec (λ c. search needs) free (λ c. search needs) free (λ c. search needs) free returns returns-2 returns-3)
