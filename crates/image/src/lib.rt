@@ -1,0 +1,4 @@
+pub mod block;
+pub mod read;
+pub mod rules;
+pub mod write;
