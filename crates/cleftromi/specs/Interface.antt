@@ -3,10 +3,14 @@ use Prim.Native.Nat.{ℕ}
 use mathlib.Core.Bool.{Bool, cond}
 use mathlib.Core.List.{List, _∷_}
 use lib.Dec.{eqb}
-use Rattle.chip.specs.Answer.{values, first-of, numbered}
+use lib.ListN.{length}
+use Rattle.chip.specs.Answer.{values, granted, first-of, numbered}
 use Rattle.chip.specs.Call.{checks, carried-out}
 use Rattle.cleftromi.specs.Fields.{number-of}
 use Rattle.block.specs.Layout.{short, read, written}
+use Rattle.image.specs.Image.{form, system-of, save-refusals, refusals as image-refusals}
+use Rattle.chip.specs.declared.answer.Answer.the-variants.{Done}
+use Rattle.chip.specs.declared.answer.Outcome.{Outcome}
 use Rattle.chip.specs.declared.access.Cycle.{Cycle}
 use Rattle.chip.specs.declared.access.Cycle.the-variants as cycle
 use Rattle.chip.specs.declared.register.Operation.{Operation}
@@ -33,12 +37,46 @@ operation-by direction value = cond (eqb direction 0) operation.Read (operation.
 abbrev pub refusals : Call → (block : List ℕ) → List (ℕ × Bool)
 refusals call b = (7, short b) ∷ numbered (checks call (read b))
 
--- the first that applies is the answer, and the block stays; where none does the call is carried out
+-- the answer, and what the block then holds: the refusal, and the block stays; or, where it is zero, an outcome's
+abbrev pub told : (refusal : ℕ) → Outcome → ℕ
+told refusal o = cond (eqb refusal 0) (number-of (values (o .answer)) (o .irq)) refusal
+
+abbrev pub left : (refusal : ℕ) → Outcome → (block : List ℕ) → List ℕ
+left refusal o b = cond (eqb refusal 0) (written b (o .system)) b
+
+-- the first check that applies is the refusal; where none does the call is carried out
 unfoldable pub answer : Call → (block : List ℕ) → ℕ
-answer call b =
-    let refusal = first-of (refusals call b) in
-    let o = carried-out call (read b) in
-    cond (eqb refusal 0) (number-of (values (o .answer)) (o .irq)) refusal
+answer call b = told (first-of (refusals call b)) (carried-out call (read b))
 
 unfoldable pub after : Call → (block : List ℕ) → List ℕ
-after call b = cond (eqb (first-of (refusals call b)) 0) (written b (carried-out call (read b) .system)) b
+after call b = left (first-of (refusals call b)) (carried-out call (read b)) b
+
+-- ---- Document 02, P2. A save checks: 7, then what image checks. It is done, and leaves the state as it was
+abbrev pub save-refusal : (block image : List ℕ) → ℕ
+save-refusal b i = first-of ((7, short b) ∷ save-refusals (length i) (read b))
+
+abbrev pub save-done : (block : List ℕ) → Outcome
+save-done b = granted Done (read b)
+
+unfoldable pub save-answer : (block image : List ℕ) → ℕ
+save-answer b i = told (save-refusal b i) (save-done b)
+
+unfoldable pub save-after : (block image : List ℕ) → List ℕ
+save-after b i = left (save-refusal b i) (save-done b) b
+
+-- what the image then holds
+unfoldable pub save-image : (block image : List ℕ) → List ℕ
+save-image b i = cond (eqb (save-refusal b i) 0) (form (read b)) i
+
+-- A restore checks: 7, then the image. It is done, and leaves the state that the image holds
+abbrev pub restore-refusal : (block image : List ℕ) → ℕ
+restore-refusal b i = first-of ((7, short b) ∷ image-refusals i)
+
+abbrev pub restore-done : (image : List ℕ) → Outcome
+restore-done i = granted Done (system-of i)
+
+unfoldable pub restore-answer : (block image : List ℕ) → ℕ
+restore-answer b i = told (restore-refusal b i) (restore-done i)
+
+unfoldable pub restore-after : (block image : List ℕ) → List ℕ
+restore-after b i = left (restore-refusal b i) (restore-done i) b

@@ -2,8 +2,13 @@
 ghost use mathlib.Core.Path.{_≡_};
 ghost use Rattle.chip.specs.declared.call.Call.the-variants.{Start, Reset, Access, Register, Acknowledge};
 ghost use Rattle.cleftromi.specs.Interface.{selected-by, cycle-by, operation-by, answer, after};
+ghost use Rattle.cleftromi.specs.Interface.{save-answer, save-after, save-image, restore-answer, restore-after};
 ghost use Rattle.cleftromi.specs.Fields.{number-of};
+ghost use Rattle.chip.specs.Answer.{values};
+ghost use Rattle.block.specs.Layout.{written};
 use chip::access::Cycle;
+use chip::answer::Answer;
+use chip::answer::Outcome;
 use chip::answer::Values;
 use chip::call::Call;
 use chip::register::Operation;
@@ -85,6 +90,17 @@ fn run(state: &mut [u8], call: Call) -> u64
     number
 }
 
+// What a call that is granted answers and leaves.
+fn finish(state: &mut [u8], outcome: Outcome) -> u64
+    ensures { λ r. ⌜ r ≡ number-of (values (outcome .answer)) (outcome .irq) ⌝ }
+    ensures { λ r. ⌜ now (state .exit) ≡ written (now (state .entry)) (outcome .system) ⌝ }
+{
+    let answer = outcome.answer;
+    let number = number_of(answer.values(), outcome.irq);
+    block::write::write(state, outcome.system);
+    number
+}
+
 #[no_mangle]
 pub extern "C" fn cleftromi_start(state: &mut [u8], units: u64, selected: u64) -> u64
     ensures { λ r. ⌜ r ≡ answer (Start units (selected-by selected)) (now (state .entry)) ⌝ }
@@ -152,4 +168,38 @@ pub extern "C" fn cleftromi_acknowledge(state: &mut [u8], unit: u64) -> u64
     ensures { λ r. ⌜ now (state .exit) ≡ after (Acknowledge unit) (now (state .entry)) ⌝ }
 {
     run(state, Call::Acknowledge { unit })
+}
+
+#[no_mangle]
+pub extern "C" fn cleftromi_save(state: &mut [u8], image: &mut [u8]) -> u64
+    ensures { λ r. ⌜ r ≡ save-answer (now (state .entry)) (now (image .entry)) ⌝ }
+    ensures { λ r. ⌜ now (state .exit) ≡ save-after (now (state .entry)) (now (image .entry)) ⌝ }
+    ensures { λ r. ⌜ now (image .exit) ≡ save-image (now (state .entry)) (now (image .entry)) ⌝ }
+{
+    if state.len() < block::read::SIZE {
+        return SHORT;
+    }
+    let system = block::read::read(state);
+    let refusal = image::write::save(image, system);
+    if refusal != 0 {
+        return refusal as u64;
+    }
+    finish(state, system.granted(Answer::Done))
+}
+
+#[no_mangle]
+pub extern "C" fn cleftromi_restore(state: &mut [u8], image: &[u8]) -> u64
+    ensures { λ r. ⌜ r ≡ restore-answer (now (state .entry)) (now (image .entry)) ⌝ }
+    ensures { λ r. ⌜ now (state .exit) ≡ restore-after (now (state .entry)) (now (image .entry)) ⌝ }
+{
+    if state.len() < block::read::SIZE {
+        return SHORT;
+    }
+    let restored = image::read::restore(image);
+    let refusal = restored.refusal;
+    if refusal != 0 {
+        return refusal as u64;
+    }
+    let system = restored.system;
+    finish(state, system.granted(Answer::Done))
 }
