@@ -122,15 +122,78 @@ uint64_t cleftromi_register(uint8_t *state, size_t bytes, uint64_t unit, uint64_
 uint64_t cleftromi_acknowledge(uint8_t *state, size_t bytes, uint64_t unit);
 
 /* ------------------------------------------------------------------ */
+/* The image: a board that outlives the host                           */
+/* ------------------------------------------------------------------ */
+
+/* The length of the image of a board with `units` units, 1 to 6: a block of 512
+ * bytes for each unit.  The image has one form on every machine.  Block n is
+ * unit n and starts at byte 512 times n; a word has its high byte first.
+ *
+ *   0         the number of the unit, n
+ *   1         the count of units
+ *   2-17      the address space table
+ *   18-26     AC0 to AC8
+ *   27-28     for each of them, AC0 in the lowest bit, whether it was last
+ *             written globally
+ *   29 DP, 30 IVR, 31 GSR, 32 LSR (GAT, GAL and LIP as zero), 33 RDP
+ *   34-321    descriptors 0 to 31, nine bytes each, in the order of AC0 to AC8
+ *   322-509   zero
+ *   510-511   the check: the 256 words of the block add up to zero, carries
+ *             beyond 16 bits dropped
+ */
+#define CLEFTROMI_IMAGE_BYTES(units) (512 * (size_t)(units))
+
+/* Of both calls below: state and image do not overlap, each is really as long
+ * as is said, and neither pointer is NULL unless its length is 0.  That is the
+ * host's to see to.  The image may lie anywhere and needs no alignment.  A
+ * refusal changes no byte of either. */
+
+/* Writes the board into the image: all of its `image_bytes` bytes, which must be
+ * CLEFTROMI_IMAGE_BYTES of the count of units that the board has, and none
+ * beyond.  It does not matter what stood there.  The board goes on as it was.
+ *
+ * Refusals, the first that applies of 7, 1, 8, 10.  10 is given exactly when a
+ * restore would not take the image back.  That never happens to a board that
+ * these calls alone have written since a start, reset or restore was granted; so
+ * it means that something else has written into the block.
+ * Answer: CLEFTROMI_DONE. */
+uint64_t cleftromi_save(uint8_t *state, size_t bytes, uint8_t *image, size_t image_bytes);
+
+/* Puts the board of an image into the block: the one that was saved, in every
+ * register.  As a start it looks at nothing in the block, so the block needs no
+ * initialisation; the count of units comes from the image.  The image is only
+ * read.
+ *
+ * `image_bytes` must be 512 times 1 to 6: lend what the file has, whatever its
+ * length, and let the answer say whether it is an image.
+ *
+ * Refusals, the first that applies of 7, 8, and then
+ *   for each block, from block 0 on,
+ *      9   its words do not add up to zero;
+ *     10   a field of its own is not what a save writes: its number is not its
+ *          place, its count not the number of blocks, a bit is set that no
+ *          register has or a byte of 322-509 is not zero, RDP has a number
+ *          beside its bit 7, or a descriptor has IP without E;
+ *   and after all blocks
+ *     10   they do not fit together: table, GSR or IVR are not the same in all,
+ *          a byte of AC0 to AC8 last written globally in two units is not the
+ *          same in both, or two enabled descriptors of any units match the same
+ *          address and address space number.
+ * So the first bad block decides, and in it 9 comes before 10.
+ * Answer: CLEFTROMI_DONE. */
+uint64_t cleftromi_restore(uint8_t *state, size_t bytes, const uint8_t *image, size_t image_bytes);
+
+/* ------------------------------------------------------------------ */
 /* Refusals                                                            */
 /* ------------------------------------------------------------------ */
 
 /* Where several apply, the answer is the first in the order 7, 1, 2, 3, 4, 5,
- * 6.  A refusal changes nothing.
+ * 6; for images it is the one that cleftromi_save and cleftromi_restore name.
+ * A refusal changes nothing.
  *
  *   no.  given exactly when                          by
  *   ---  ------------------------------------------  --------------------------
- *   1    the count of units is 0 or above 6: start   every call
+ *   1    the count of units is 0 or above 6: start   every call but restore
  *        tests the count asked for, the others the
  *        one in the block
  *   2    the unit is not below the count             start and reset (where
@@ -140,7 +203,12 @@ uint64_t cleftromi_acknowledge(uint8_t *state, size_t bytes, uint64_t unit);
  *   4    the function code is above 15               access
  *   5    the logical address is above $FFFFFF        access
  *   6    IRQ is not asserted                         acknowledge
- *   7    `bytes` is below CLEFTROMI_STATE_BYTES      every call */
+ *   7    `bytes` is below CLEFTROMI_STATE_BYTES      every call
+ *   8    `image_bytes` is not 512 times 1 to 6;      restore
+ *        is not 512 times the count in the block     save
+ *   9    a block of the image does not add up        restore
+ *   10   the fields of the image are none that a     restore; save, of the
+ *        board can have                              image it would write */
 enum {
     CLEFTROMI_REFUSED_COUNT = 1,
     CLEFTROMI_REFUSED_UNIT = 2,
@@ -148,7 +216,10 @@ enum {
     CLEFTROMI_REFUSED_FUNCTION_CODE = 4,
     CLEFTROMI_REFUSED_ADDRESS = 5,
     CLEFTROMI_REFUSED_INTERRUPT = 6,
-    CLEFTROMI_REFUSED_BLOCK = 7
+    CLEFTROMI_REFUSED_BLOCK = 7,
+    CLEFTROMI_REFUSED_IMAGE_LENGTH = 8,
+    CLEFTROMI_REFUSED_IMAGE_CHECK = 9,
+    CLEFTROMI_REFUSED_IMAGE_FIELDS = 10
 };
 
 /* ------------------------------------------------------------------ */
@@ -157,7 +228,7 @@ enum {
 
 /* The kinds.  A refusal has kind 0. */
 enum {
-    CLEFTROMI_DONE = 1,      /* start, reset, register write */
+    CLEFTROMI_DONE = 1,      /* start, reset, register write, save, restore */
     CLEFTROMI_BYTE = 2,      /* register read, acknowledge */
     CLEFTROMI_MAPPED = 3,    /* bus access: translated */
     CLEFTROMI_VIOLATION = 4, /* bus access: write violation */
