@@ -734,3 +734,22 @@ model_answer model_acknowledge(model *m, uint64_t unit)
     read_as_state(m);
     return byte_answer(m, m->ivr);
 }
+
+/* ------------------------------------------------------------------ */
+/* For images                                                          */
+/* ------------------------------------------------------------------ */
+
+model_answer model_done(const model *m)
+{
+    return answer(m, MODEL_DONE);
+}
+
+void model_read_as_state(model *m)
+{
+    read_as_state(m);
+}
+
+bool model_clash(const model_descriptor *a, const model_descriptor *b)
+{
+    return clash(a, b);
+}

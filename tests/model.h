@@ -1,8 +1,8 @@
 /* One to six MC68451 memory management units, at the level of whole cycles.
  *
  * Written from the papers alone: the MC68451 handbook of April 1983 (section
- * numbers such as 4.6.3.2 are its own), document 01 ("01"), request P1 of
- * document 02 and the rulings.
+ * numbers such as 4.6.3.2 are its own), document 01 ("01"), requests P1 and P2
+ * of document 02 and the rulings.
  * It is an oracle for tests: clarity goes before speed everywhere.
  */
 #ifndef MODEL_H
@@ -66,5 +66,11 @@ model_answer model_reset(model *m, uint64_t selected);
 model_answer model_access(model *m, uint64_t function_code, uint64_t direction, uint64_t address);
 model_answer model_register(model *m, uint64_t unit, uint64_t address, uint64_t direction, uint8_t value);
 model_answer model_acknowledge(model *m, uint64_t unit);
+
+/* What model_image.c needs: the answer that has no field but IRQ, the one
+ * meaning of a state that no call leaves, and whether two descriptors clash. */
+model_answer model_done(const model *m);
+void model_read_as_state(model *m);
+bool model_clash(const model_descriptor *a, const model_descriptor *b);
 
 #endif

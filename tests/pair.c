@@ -119,12 +119,8 @@ static model_answer expected(pair *p, call c)
     return p->bytes < LAYOUT_BYTES ? too_short : call_model(c, &p->m);
 }
 
-bool pair_call(pair *p, call c)
+bool pair_same(const pair *p, uint64_t ours)
 {
-    uint64_t ours = call_library(c, p->room + p->at, p->bytes);
-    p->answer = expected(p, c);
-    if (p->answer.refusal == 0) /* a refused call writes nothing */
-        layout_encode(&p->m, p->wanted + p->at);
     bool same = true;
     if (!same_answer(ours, p->answer)) {
         print_answer("library", ours);
@@ -136,4 +132,13 @@ bool pair_call(pair *p, call c)
         same = false;
     }
     return same;
+}
+
+bool pair_call(pair *p, call c)
+{
+    uint64_t ours = call_library(c, p->room + p->at, p->bytes);
+    p->answer = expected(p, c);
+    if (p->answer.refusal == 0) /* a refused call writes nothing */
+        layout_encode(&p->m, p->wanted + p->at);
+    return pair_same(p, ours);
 }

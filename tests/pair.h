@@ -42,4 +42,8 @@ void pair_lend(pair *p, const uint8_t *block, size_t at, size_t bytes, uint64_t 
 /* Makes a call to both.  False if they differ; what differs is then printed. */
 bool pair_call(pair *p, call c);
 
+/* Whether an answer of the library and its room are as wanted; else what differs
+ * is printed. */
+bool pair_same(const pair *p, uint64_t ours);
+
 #endif

@@ -1,7 +1,8 @@
-/* The five functions of the library, by the model.  For tests/broken alone: a
- * program that runs on the library can so be run on something wrong. */
+/* The functions of the library, by the model.  For tests/broken alone: a program
+ * that runs on the library can so be run on something wrong. */
 #include "cleftromi.h"
 #include "layout.h"
+#include "model_image.h"
 #include "pair.h"
 
 /* A refused call writes nothing. */
@@ -46,4 +47,28 @@ uint64_t cleftromi_acknowledge(uint8_t *state, size_t bytes, uint64_t unit)
 {
     call c = {CALL_ACKNOWLEDGE, {unit, 0, 0}, 0};
     return stand_in(c, state, bytes);
+}
+
+uint64_t cleftromi_save(uint8_t *state, size_t bytes, uint8_t *image, size_t image_bytes)
+{
+    static model m;
+    if (bytes < LAYOUT_BYTES)
+        return CLEFTROMI_REFUSED_BLOCK;
+    layout_decode(state, &m);
+    model_answer a = model_save(&m, image, image_bytes);
+    if (a.refusal == 0)
+        layout_encode(&m, state);
+    return layout_answer(a);
+}
+
+/* What stands in the state is not read. */
+uint64_t cleftromi_restore(uint8_t *state, size_t bytes, const uint8_t *image, size_t image_bytes)
+{
+    static model m;
+    if (bytes < LAYOUT_BYTES)
+        return CLEFTROMI_REFUSED_BLOCK;
+    model_answer a = model_restore(&m, image, image_bytes);
+    if (a.refusal == 0)
+        layout_encode(&m, state);
+    return layout_answer(a);
 }
