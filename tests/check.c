@@ -4,6 +4,7 @@
 #include <stdlib.h>
 #include <string.h>
 #include "model.h"
+#include "model_image.h"
 
 #define CHECK(condition) check((condition), __LINE__, #condition)
 
@@ -1126,6 +1127,121 @@ static void random_calls(void)
     CHECK(modified[MODEL_MAPPED] > 100 && modified[MODEL_VIOLATION] > 100 && modified[MODEL_UNDEFINED] > 100);
 }
 
+/* ------------------------------------------------------------------ */
+/* Document 02, P2: images                                             */
+/* ------------------------------------------------------------------ */
+
+static uint8_t image[3072];
+
+static unsigned saved(size_t bytes)
+{
+    model_answer a = model_save(&m, image, bytes);
+    CHECK(a.refusal != 0 || (a.kind == MODEL_DONE && a.byte == 0 && a.address == 0));
+    last_irq = a.irq;
+    return a.refusal;
+}
+
+static unsigned restored(size_t bytes)
+{
+    model_answer a = model_restore(&m, image, bytes);
+    CHECK(a.refusal != 0 || (a.kind == MODEL_DONE && a.byte == 0 && a.address == 0));
+    last_irq = a.irq;
+    return a.refusal;
+}
+
+/* One unit after a start: IVR $0F, RDP $80, descriptor 0 with ASM $FF and E.
+ * The words 0001, 0F00, 0080, 0001 and FF00 add up to 10E82, the check is
+ * 10000 less 0E82. */
+static void image_of_a_start(void)
+{
+    static const unsigned places[][2] = {{1, 0x01}, {30, 0x0F}, {33, 0x80}, {41, 0x01}, {42, 0xFF}, {510, 0xF1},
+                                         {511, 0x7E}};
+    uint8_t due[512] = {0};
+    for (unsigned i = 0; i < sizeof places / sizeof places[0]; i++)
+        due[places[i][0]] = (uint8_t)places[i][1];
+    start(1, 0);
+    CHECK(saved(512) == 0 && last_irq == 0);
+    CHECK(memcmp(image, due, 512) == 0);
+    start(3, 2);
+    CHECK(restored(512) == 0);
+    CHECK(m.count == 1 && m.ivr == 0x0F && m.unit[0].rdp == 0x80 && m.unit[0].d[0].ssr == 0x01);
+    CHECK(is_mapped(model_access(&m, 7, READ, 0xABCDEF), 0xABCDEF, 0, 0, 0, 0));
+}
+
+/* Byte by byte, of the second of two units: the nine marks have their high byte
+ * first, words theirs too, and the descriptors begin at 34. */
+static void image_of_two(void)
+{
+    const uint8_t *b = image + 512;
+    start(2, MODEL_NONE);
+    wr(0, 0x1E, 0x5F); /* table entry 15 */
+    wr(0, IVR, 0x40);
+    CHECK(load(1, 31, 0x1234, 0xFFF0, 0xABCD, 0x02, 0x99, 0xFE) == 0x00);
+    wr(0, GSR, 0x01);
+    CHECK(rd(1, SSR) == 0x99); /* its marks are cleared */
+    wr(0, AC1, 0x77);
+    wr(0, AC8, 0x88);
+    CHECK(saved(1024) == 0 && last_irq == 1);
+    CHECK(b[0] == 1 && b[1] == 2 && b[2] == 0 && b[17] == 0x5F);
+    CHECK(b[18] == 0x12 && b[19] == 0x77 && b[24] == 0x02 && b[25] == 0x99 && b[26] == 0x88);
+    CHECK(b[27] == 0x01 && b[28] == 0x02 && image[27] == 0x01 && image[28] == 0xFF);
+    CHECK(b[29] == 31 && b[30] == 0x40 && b[31] == 0x01 && b[32] == 0x00 && b[33] == 0x80);
+    CHECK(b[313] == 0x12 && b[314] == 0x34 && b[315] == 0xFF && b[316] == 0xF0 && b[317] == 0xAB && b[318] == 0xCD);
+    CHECK(b[319] == 0x02 && b[320] == 0x99 && b[321] == 0xFE && b[322] == 0);
+    CHECK(image[0] == 0 && image[1] == 2 && image[17] == 0x5F && image[30] == 0x40 && image[320] == 0);
+    start(1, MODEL_NONE);
+    CHECK(restored(1024) == 0 && last_irq == 1);
+    CHECK(m.count == 2 && m.unit[1].mark[8] && !m.unit[1].mark[0] && m.unit[1].d[31].lba == 0x1234 && m.unit[1].d[31].pba == 0xABCD);
+}
+
+/* Ruling 14: a wrong count in block 0 and a bad check in block 1 is 10; the other
+ * way about it is 9, and so it is with both in one block. */
+static void image_orders(void)
+{
+    start(2, 0);
+    CHECK(saved(512) == 8 && saved(0) == 8 && saved(1023) == 8 && saved(3072) == 8 && saved(1024) == 0);
+    CHECK(restored(0) == 8 && restored(511) == 8 && restored(1000) == 8 && restored(3584) == 8);
+    CHECK(restored(512) == 10); /* its count is 2 */
+    image[1] = 3;
+    model_mend(image);
+    image[512 + 100] = 1;
+    CHECK(restored(1024) == 10);
+    image[510] ^= 1;
+    CHECK(restored(1024) == 9);
+    image[1] = 2;
+    model_mend(image);
+    CHECK(restored(1024) == 9);
+    image[512 + 100] = 0;
+    CHECK(restored(1024) == 0);
+    image[512 + IMAGE_IVR] = 0x10; /* unlike block 0's, and there a bad check comes first */
+    model_mend(image + 512);
+    CHECK(restored(1024) == 10);
+    image[511] ^= 1;
+    CHECK(restored(1024) == 9);
+    m.count = 0;
+    CHECK(saved(0) == 1 && saved(512) == 1);
+    m.count = 7;
+    CHECK(saved(3584) == 1);
+}
+
+/* States that no call leaves are not saved: two that clash, marked bytes that
+ * differ.  Bits that no register has read as zero, and are. */
+static void image_of_no_history(void)
+{
+    start(2, 0);
+    m.unit[1].d[5].ssr = 0x01;
+    m.unit[1].d[5].lba = 0x8000; /* no mask: every page and number */
+    CHECK(saved(1024) == 10);
+    m.unit[1].d[5].ssr = 0x68;
+    CHECK(saved(1024) == 0 && image[512 + 34 + 9 * 5 + 7] == 0);
+    m.unit[0].mark[4] = m.unit[1].mark[4] = true;
+    CHECK(saved(1024) == 0);
+    m.unit[1].ac[4] = 1;
+    CHECK(saved(1024) == 10);
+    m.unit[0].mark[4] = false;
+    CHECK(saved(1024) == 0 && image[28] == 0 && image[512 + 28] == 0x10);
+}
+
 int main(void)
 {
     twelve_cases();
@@ -1144,6 +1260,10 @@ int main(void)
     refusals();
     unreachable();
     clash_by_trying();
+    image_of_a_start();
+    image_of_two();
+    image_orders();
+    image_of_no_history();
     random_calls();
     printf("ok\n");
     return 0;

@@ -11,7 +11,8 @@ void image_lend(lent_image *i, const uint8_t *image, size_t length, size_t at, s
         seed = seed * 6364136223846793005u + 1442695040888963407u;
         i->wanted[n] = (uint8_t)(seed >> 56);
     }
-    memcpy(i->wanted + at, image, length);
+    if (length > 0)
+        memcpy(i->wanted + at, image, length);
     memcpy(i->room, i->wanted, PAIR_ROOM);
     i->at = at;
     i->bytes = bytes;
