@@ -1191,7 +1191,8 @@ static void image_of_two(void)
     CHECK(image[0] == 0 && image[1] == 2 && image[17] == 0x5F && image[30] == 0x40 && image[320] == 0);
     start(1, MODEL_NONE);
     CHECK(restored(1024) == 0 && last_irq == 1);
-    CHECK(m.count == 2 && m.unit[1].mark[8] && !m.unit[1].mark[0] && m.unit[1].d[31].lba == 0x1234 && m.unit[1].d[31].pba == 0xABCD);
+    CHECK(m.count == 2 && m.unit[1].mark[8] && !m.unit[1].mark[0]);
+    CHECK(m.unit[1].d[31].lba == 0x1234 && m.unit[1].d[31].pba == 0xABCD);
 }
 
 /* Ruling 14: a wrong count in block 0 and a bad check in block 1 is 10; the other

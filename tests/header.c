@@ -14,6 +14,8 @@ uint64_t cleftromi_access(uint8_t *state, size_t bytes, uint64_t function_code, 
 uint64_t cleftromi_register(uint8_t *state, size_t bytes, uint64_t unit, uint64_t address, uint64_t direction,
                             uint8_t value);
 uint64_t cleftromi_acknowledge(uint8_t *state, size_t bytes, uint64_t unit);
+uint64_t cleftromi_save(uint8_t *state, size_t bytes, uint8_t *image, size_t image_bytes);
+uint64_t cleftromi_restore(uint8_t *state, size_t bytes, const uint8_t *image, size_t image_bytes);
 #ifdef __cplusplus
 }
 #endif
@@ -36,6 +38,18 @@ static const int constants[][2] = {
     {CLEFTROMI_REFUSED_ADDRESS, 5},
     {CLEFTROMI_REFUSED_INTERRUPT, 6},
     {CLEFTROMI_REFUSED_BLOCK, 7},
+    {CLEFTROMI_REFUSED_IMAGE_LENGTH, 8},
+    {CLEFTROMI_REFUSED_IMAGE_CHECK, 9},
+    {CLEFTROMI_REFUSED_IMAGE_FIELDS, 10},
+};
+
+/* The length of an image is a size, of any expression. */
+static const size_t lengths[][2] = {
+    {CLEFTROMI_IMAGE_BYTES(1), 512},
+    {CLEFTROMI_IMAGE_BYTES(6), 3072},
+    {CLEFTROMI_IMAGE_BYTES(1 + 1), 1024},
+    {CLEFTROMI_IMAGE_BYTES(2) / 2, 512},
+    {sizeof(CLEFTROMI_IMAGE_BYTES(1)), sizeof(size_t)},
 };
 
 /* docs/LAYOUTS.md, "The answer". */
@@ -100,15 +114,29 @@ static int wrong_constants(void)
     return wrong;
 }
 
-/* With C++, names are the C ones only if the header says so: this start fails
+static int wrong_lengths(void)
+{
+    int wrong = 0;
+    for (unsigned i = 0; i < sizeof lengths / sizeof lengths[0]; i++)
+        if (lengths[i][0] != lengths[i][1]) {
+            printf("length %u of an image is not what it was to be\n", i);
+            wrong++;
+        }
+    return wrong;
+}
+
+/* With C++, names are the C ones only if the header says so: these calls fail
  * to link otherwise. */
 static int wrong_names(void)
 {
-    uint8_t state[1] = {0};
-    return cleftromi_start(state, 0, 1, 0) != CLEFTROMI_REFUSED_BLOCK;
+    uint8_t state[1] = {0}, image[1] = {0};
+    const uint8_t *read_only = image;
+    return cleftromi_start(state, 0, 1, 0) != CLEFTROMI_REFUSED_BLOCK ||
+           cleftromi_save(state, 0, image, 0) != CLEFTROMI_REFUSED_BLOCK ||
+           cleftromi_restore(state, 0, read_only, 0) != CLEFTROMI_REFUSED_BLOCK;
 }
 
 int main(void)
 {
-    return wrong_readers() + wrong_constants() + wrong_names() != 0;
+    return wrong_readers() + wrong_constants() + wrong_lengths() + wrong_names() != 0;
 }

@@ -46,8 +46,8 @@ typedef struct {
 
 static void fail(const char *call, const char *what)
 {
-    printf("seed %" PRIu64 ", case %lu, %s, %s: %zu bytes of state lent at %zu, %zu of image at %zu\n", seed, made, call,
-           what, both.bytes, both.at, lent.bytes, lent.at);
+    printf("seed %" PRIu64 ", case %lu, %s, %s: %zu bytes of state lent at %zu, %zu of image at %zu\n", seed, made,
+           call, what, both.bytes, both.at, lent.bytes, lent.at);
     exit(1);
 }
 
@@ -805,8 +805,8 @@ static void two_faults(const image *good, unsigned first, unsigned a, unsigned s
 {
     static image i;
     char what[96];
-    snprintf(what, sizeof what, "%s in block %u and %s in block %u of %u", faults[first].name, a, faults[second].name, b,
-             good->count);
+    snprintf(what, sizeof what, "%s in block %u and %s in block %u of %u", faults[first].name, a, faults[second].name,
+             b, good->count);
     i = *good;
     faults[first].put(&i, a);
     faults[second].put(&i, b);

@@ -1,6 +1,6 @@
-/* short: lengths of the lent block, and calls that are wrong in several ways at
- * once.  The block ends where the readable memory ends, so that a byte touched
- * past it, even only read, ends the program. */
+/* short: lengths of the lent block and of the lent image, and calls that are
+ * wrong in several ways at once.  Block and image end where the readable memory
+ * ends, so that a byte touched past them, even only read, ends the program. */
 #define _DEFAULT_SOURCE /* for MAP_ANONYMOUS */
 #include <stdio.h>
 #include <stdlib.h>
@@ -9,14 +9,17 @@
 #include <unistd.h>
 #include "cleftromi.h"
 #include "layout.h"
+#include "model_image.h"
 #include "pair.h"
 
 #define AREA 16384u
+#define LENGTHS 3600u
 #define WIDE ((uint64_t)1 << 32)
 #define WIDEST UINT64_MAX
 
-static uint8_t *area; /* AREA bytes, with memory that may not be touched on both sides */
-static uint8_t before[AREA];
+/* AREA bytes each, with memory that may not be touched on both sides. */
+static uint8_t *area, *image_area;
+static uint8_t before[AREA], image_before[AREA];
 static unsigned made;
 
 static void fail(const char *what, call c, size_t bytes, uint64_t ours, uint64_t wanted)
@@ -27,7 +30,7 @@ static void fail(const char *what, call c, size_t bytes, uint64_t ours, uint64_t
     exit(1);
 }
 
-static void make_area(void)
+static uint8_t *make_area(void)
 {
     size_t page = (size_t)sysconf(_SC_PAGESIZE);
     size_t hedge = page > AREA ? page : AREA; /* AREA is a whole number of small pages */
@@ -37,16 +40,21 @@ static void make_area(void)
         printf("no memory with an edge\n");
         exit(2);
     }
-    area = all + hedge;
+    return all + hedge;
 }
 
-static void fill_area(void)
+static void fill_with_noise(uint8_t *to)
 {
     uint32_t seed = 68451;
     for (size_t i = 0; i < AREA; i++) {
         seed = seed * 1664525u + 1013904223u;
-        area[i] = (uint8_t)(seed >> 24);
+        to[i] = (uint8_t)(seed >> 24);
     }
+}
+
+static void fill_area(void)
+{
+    fill_with_noise(area);
 }
 
 /* The call must be answered so, and leave every byte. */
@@ -229,9 +237,194 @@ static void orders(void)
     }
 }
 
+/* ------------------------------------------------------------------ */
+/* Images                                                              */
+/* ------------------------------------------------------------------ */
+
+typedef struct {
+    const char *name;
+    uint8_t *state, *image;
+    size_t bytes, image_bytes;
+} image_call;
+
+static uint64_t save(image_call c)
+{
+    return cleftromi_save(c.state, c.bytes, c.image, c.image_bytes);
+}
+
+static uint64_t restore(image_call c)
+{
+    return cleftromi_restore(c.state, c.bytes, c.image, c.image_bytes);
+}
+
+/* The call must be answered so, and leave in both areas what "before" has. */
+static void must_leave(image_call c, const char *what, uint64_t ours, uint64_t wanted)
+{
+    made++;
+    if (ours == wanted && memcmp(before, area, AREA) == 0 && memcmp(image_before, image_area, AREA) == 0)
+        return;
+    printf("%s of an image, %s, %zu bytes of state and %zu of image lent: library 0x%016llX, wanted 0x%016llX%s\n",
+           c.name, what, c.bytes, c.image_bytes, (unsigned long long)ours, (unsigned long long)wanted,
+           ours == wanted ? ", and other bytes" : "");
+    exit(1);
+}
+
+static void note_areas(void)
+{
+    memcpy(before, area, AREA);
+    memcpy(image_before, image_area, AREA);
+}
+
+static void must_refuse_both(image_call c, const char *what, uint64_t refusal_of_save, uint64_t refusal_of_restore)
+{
+    note_areas();
+    c.name = "save";
+    must_leave(c, what, save(c), refusal_of_save);
+    c.name = "restore";
+    must_leave(c, what, restore(c), refusal_of_restore);
+}
+
+/* A board of so many units, some of them with a segment. */
+static model board(unsigned units)
+{
+    static model m;
+    model_start(&m, units, units / 2);
+    model_register(&m, units - 1, CLEFTROMI_SSR, CLEFTROMI_READ, 0);
+    model_register(&m, 0, CLEFTROMI_AC8, CLEFTROMI_WRITE, 0x5A);
+    model_register(&m, 0, CLEFTROMI_AST(3), CLEFTROMI_WRITE, 0xA5);
+    model_access(&m, 0, CLEFTROMI_MODIFY, 0x123456);
+    model_access(&m, 3, CLEFTROMI_READ, 0x654321);
+    return m;
+}
+
+/* The image of such a board, up to the end of its area. */
+static uint8_t *put_image(const model *m, size_t image_bytes)
+{
+    model copy = *m;
+    fill_with_noise(image_area);
+    model_save(&copy, image_area + AREA - image_bytes, image_bytes);
+    return image_area + AREA - image_bytes;
+}
+
+/* A block too short, with an image that is good. */
+static void too_short_for_images(size_t bytes)
+{
+    uint8_t *places[] = {area + AREA - bytes, area + 3};
+    for (unsigned p = 0; p < 2; p++) {
+        image_call c = {0, places[p], image_area + AREA - 1024, bytes, 1024};
+        if (bytes > 0)
+            places[p][0] = 2;
+        must_refuse_both(c, "too short", 7, 7);
+    }
+}
+
+/* Any length of an image but the right one, right up to the edge, and with more
+ * bytes that were not lent behind it.  Of six blocks the first has a good check,
+ * but not the count of fewer. */
+static void image_lengths(void)
+{
+    model six = board(6);
+    uint8_t *state = area + AREA - LAYOUT_BYTES;
+    fill_area();
+    layout_encode(&six, state);
+    for (size_t length = 0; length <= LENGTHS; length++) {
+        image_call c = {0, state, image_area + AREA - length, LAYOUT_BYTES, length};
+        uint64_t due = length > 0 && length < 3072 && length % 512 == 0 ? 10 : 8;
+        if (length == 3072)
+            continue;
+        memmove(c.image, put_image(&six, 3072), length < 3072 ? length : 3072);
+        must_refuse_both(c, "a length", 8, due);
+        c.image = put_image(&six, 3072);
+        if (length < 3072)
+            must_refuse_both(c, "a length with more behind it", 8, due);
+    }
+}
+
+/* A save and a restore that are granted, image and block at both ends. */
+static void images_granted(unsigned units, bool at_the_end)
+{
+    model m = board(units);
+    size_t length = CLEFTROMI_IMAGE_BYTES(units);
+    image_call c = {"save", area, image_area, LAYOUT_BYTES, length};
+    if (at_the_end) {
+        c.state = area + AREA - LAYOUT_BYTES;
+        c.image = image_area + AREA - length;
+    }
+    fill_area();
+    fill_with_noise(image_area);
+    layout_encode(&m, c.state);
+    note_areas();
+    uint64_t wanted = layout_answer(model_save(&m, image_before + (c.image - image_area), length));
+    must_leave(c, "granted", save(c), wanted);
+
+    fill_area();
+    note_areas();
+    layout_encode(&m, before + (c.state - area));
+    c.name = "restore";
+    must_leave(c, "granted", restore(c), wanted);
+}
+
+/* No pointer need point anywhere where its length is 0. */
+static void no_bytes(void)
+{
+    model m = board(1);
+    uint8_t *state = area + AREA - LAYOUT_BYTES;
+    image_call nothing = {0, NULL, NULL, 0, 0}, no_state = {0, NULL, NULL, 0, 512}, no_image = {0, NULL, NULL, 4096, 0};
+    no_state.image = put_image(&m, 512);
+    layout_encode(&m, state);
+    no_image.state = state;
+    must_refuse_both(nothing, "nothing lent", 7, 7);
+    must_refuse_both(no_state, "no state", 7, 7);
+    must_refuse_both(no_image, "no image", 8, 8);
+}
+
+/* Lengths that a narrowing would turn into good ones, of memory that is really
+ * there: an image of 2^32 + 512 bytes, and a block of 2^32 + 16. */
+static void wide_lengths(void)
+{
+    static const uint64_t wide[] = {0x10000, 0x10000 + 512, WIDE, WIDE + 512, WIDE + 1024, WIDE + 3072};
+    size_t all = (size_t)WIDE + AREA;
+    uint8_t *room = mmap(NULL, all, PROT_READ | PROT_WRITE, MAP_PRIVATE | MAP_ANONYMOUS | MAP_NORESERVE, -1, 0);
+    model m = board(1);
+    uint8_t *state = area + AREA - LAYOUT_BYTES;
+    if (room == MAP_FAILED) {
+        printf("no room for lengths of 2^32 bytes, which were not tried\n");
+        return;
+    }
+    fill_area();
+    layout_encode(&m, state);
+    memcpy(room, put_image(&m, 512), 512);
+    for (unsigned i = 0; i < sizeof wide / sizeof wide[0]; i++) {
+        image_call c = {0, state, room, LAYOUT_BYTES, (size_t)wide[i]};
+        must_refuse_both(c, "a wide length", 8, 8);
+    }
+    image_call c = {"restore", room, image_area + AREA - 512, (size_t)WIDE + 16, 512};
+    note_areas();
+    must_leave(c, "a wide block", restore(c), layout_answer(model_done(&m)));
+    must_leave(c, "a wide block", save(c), layout_answer(model_done(&m)));
+    munmap(room, all);
+}
+
+static void images(void)
+{
+    model two = board(2);
+    fill_area();
+    put_image(&two, 1024);
+    for (size_t bytes = 0; bytes < LAYOUT_BYTES; bytes++)
+        too_short_for_images(bytes);
+    image_lengths();
+    for (unsigned units = 1; units <= 6; units++) {
+        images_granted(units, false);
+        images_granted(units, true);
+    }
+    no_bytes();
+    wide_lengths();
+}
+
 int main(void)
 {
-    make_area();
+    area = make_area();
+    image_area = make_area();
     fill_area();
     for (size_t bytes = 0; bytes < LAYOUT_BYTES; bytes++)
         too_short(bytes);
@@ -239,6 +432,7 @@ int main(void)
     long_enough(4097);
     long_enough(8192);
     orders();
+    images();
     printf("%u calls\n", made);
     return 0;
 }
