@@ -1,6 +1,6 @@
 /* demands SEED CALLS: the sentences of the demands, checked on the library.
- * Random histories: a start or reset that is granted, then calls of all five
- * functions.  After each call the block is read here, by docs/LAYOUTS.md:
+ * Random histories: a start, reset or restore that is granted, then calls of all
+ * seven functions.  After each call the block is read here, by docs/LAYOUTS.md:
  *
  *   1  no two enabled descriptors in any units match the same page and number;
  *   2  a load that asks to be enabled is refused exactly when some page and
@@ -25,9 +25,16 @@
  *      for an undefined write and for every violation;
  *  11  a read-modify-write that is not undefined answers and leaves what a read
  *      and then a write of the same address do, the answer being the write's;
- *      an undefined one what the read does.
+ *      an undefined one what the read does;
+ *  12  a save of a reached state with the right length is granted.  A save that is
+ *      granted writes the state as document 02 lays it down, and restoring that
+ *      into any block gives the same 4,096 bytes;
+ *  13  a restore that is granted leaves the state that the image has, and a save
+ *      then gives the image's bytes;
+ *  14  a save is refused with 10 exactly when restoring the image that would be
+ *      written is.
  *
- * 2, 3 and 5 to 11 are said of every block, and so is 4 but for the marks: they
+ * 2, 3 and 5 to 14 are said of every block, and so is 4 but for the marks: they
  * are checked on noise too, random bytes in which descriptors clash.
  *
  * Nothing is compared with the model.  Only mix, which plans the calls, sees
@@ -36,6 +43,7 @@
 #include <stdio.h>
 #include <stdlib.h>
 #include <string.h>
+#include "block_image.h"
 #include "cleftromi.h"
 #include "layout.h"
 #include "mix.h"
@@ -47,16 +55,22 @@
 #define UNITS 6u
 #define HISTORY 2500u /* calls: enough to fill a unit or two */
 #define NOISES 120u   /* blocks of noise after each history */
+#define IMAGES 60u    /* of as many plans one is a save, and one a restore */
 
 /* The block stands somewhere in the room: "before" is the room as it was. */
 static uint8_t room[ROOM], before[ROOM];
 static size_t at, bytes;
 
+/* So does the image. */
+static uint8_t image_room[ROOM], image_before[ROOM];
+static size_t image_at, image_bytes;
+
 static mix calls;
-static call now; /* the call that is being checked */
+static call now;               /* the call that is being checked, */
+static const char *image_call; /* or "save" or "restore" where it is one of these */
 static uint64_t seed;
 static unsigned long made, histories;
-static bool reached; /* from a granted start or reset; else the block is noise */
+static bool reached; /* from a granted start, reset or restore; else the block is noise */
 static bool clashed; /* before the call that is being checked two enabled descriptors clashed */
 
 /* ------------------------------------------------------------------ */
@@ -90,7 +104,12 @@ enum {
     SEEN_TWO_CLASH,
     SEEN_TWO_VIOLATED,
     SEEN_TWO_TRANSLATED,
-    SEEN_END
+    SEEN_SAVED,
+    SEEN_SAVED_NOISE,
+    SEEN_NOT_SAVED,
+    SEEN_RESTORED,
+    SEEN_IMAGE_REFUSALS, /* 8 to 10 */
+    SEEN_END = SEEN_IMAGE_REFUSALS + 3
 };
 
 static const char *const seen_names[SEEN_END] = {
@@ -107,6 +126,8 @@ static const char *const seen_names[SEEN_END] = {
     "calls lent more bytes than the call before", "calls lent fewer", "calls lent the whole room",
     "units with two descriptors or more that a refused load clashes with",
     "violations where two descriptors match or more", "direct translations where two match or more",
+    "reached states saved", "states in noise saved", "states in noise not to be saved", "images restored",
+    "refusals 8", "refusals 9", "refusals 10",
 };
 
 static unsigned long seen[SEEN_END];
@@ -239,7 +260,10 @@ static void must(bool good, const char *sentence)
     if (good)
         return;
     printf("seed %" PRIu64 ", call %lu, %zu bytes lent at %zu: %s: ", seed, made, bytes, at, sentence);
-    call_print(now);
+    if (image_call == NULL)
+        call_print(now);
+    else
+        printf("%s: %zu bytes of image lent at %zu\n", image_call, image_bytes, image_at);
     exit(1);
 }
 
@@ -840,6 +864,17 @@ static void marks_alike(const uint8_t *block)
             }
 }
 
+static bool marked_unlike(const uint8_t *block)
+{
+    for (unsigned k = 1; k < block[0]; k++)
+        for (unsigned m = 0; m < k; m++)
+            for (unsigned n = 0; n < 9; n++)
+                if (marked(unit_at(block, m), n) && marked(unit_at(block, k), n) &&
+                    unit_at(block, m)[n] != unit_at(block, k)[n])
+                    return true;
+    return false;
+}
+
 /* The bits that a register has, for each byte of a block with this count. */
 static void register_bits(uint8_t *bits, unsigned count)
 {
@@ -916,6 +951,53 @@ static unsigned refusal_due(call c, const uint8_t *block)
     return 0;
 }
 
+/* Of each block of an image 9 and then its own fields, the rest last. */
+static unsigned image_due(const uint8_t *image, size_t length)
+{
+    static uint8_t block[BLOCK], again[LONGEST_IMAGE];
+    unsigned count = (unsigned)(length / PER_UNIT);
+    if (length == 0 || length > LONGEST_IMAGE || length % PER_UNIT != 0)
+        return CLEFTROMI_REFUSED_IMAGE_LENGTH;
+    for (unsigned m = 0; m < count; m++) {
+        if (!adds_up(image + PER_UNIT * m))
+            return CLEFTROMI_REFUSED_IMAGE_CHECK;
+        if (!is_some_unit(image + PER_UNIT * m, m, count))
+            return CLEFTROMI_REFUSED_IMAGE_FIELDS;
+    }
+    block_of_image(image, count, block);
+    image_of_block(block, again);
+    bool good = memcmp(image, again, length) == 0 && !marked_unlike(block) && !some_clash(block);
+    return good ? 0 : CLEFTROMI_REFUSED_IMAGE_FIELDS;
+}
+
+static unsigned restore_due(const uint8_t *image)
+{
+    return bytes < BLOCK ? CLEFTROMI_REFUSED_BLOCK : image_due(image, image_bytes);
+}
+
+static unsigned save_due(const uint8_t *block)
+{
+    static uint8_t image[LONGEST_IMAGE];
+    if (bytes < BLOCK)
+        return CLEFTROMI_REFUSED_BLOCK;
+    if (block[0] == 0 || block[0] > UNITS)
+        return CLEFTROMI_REFUSED_COUNT;
+    if (image_bytes != PER_UNIT * block[0])
+        return CLEFTROMI_REFUSED_IMAGE_LENGTH;
+    image_of_block(block, image);
+    return image_due(image, image_bytes);
+}
+
+static void note_refusal(unsigned due)
+{
+    if (due > CLEFTROMI_REFUSED_BLOCK)
+        seen[SEEN_IMAGE_REFUSALS + due - CLEFTROMI_REFUSED_IMAGE_LENGTH]++;
+    else
+        seen[SEEN_REFUSALS + due]++;
+    if (image_call == NULL && now.name == CALL_ACCESS && now.number[1] == CLEFTROMI_MODIFY)
+        refused_modify[due]++;
+}
+
 static void refused_exactly(unsigned due, uint64_t answer)
 {
     must(cleftromi_refusal(answer) == due, due == 0 ? "refused for no reason" : "not refused with the number due");
@@ -927,8 +1009,7 @@ static void refused_exactly(unsigned due, uint64_t answer)
     }
     must(answer == due, "a refusal has another field");
     must(memcmp(before, room, ROOM) == 0, "a refused call has changed a byte");
-    seen[SEEN_REFUSALS + due]++;
-    refused_modify[due] += now.name == CALL_ACCESS && now.number[1] == CLEFTROMI_MODIFY;
+    note_refusal(due);
 }
 
 /* ------------------------------------------------------------------ */
@@ -967,7 +1048,7 @@ static void lend_anew(void)
 }
 
 /* ------------------------------------------------------------------ */
-/* Histories                                                           */
+/* A call                                                              */
 /* ------------------------------------------------------------------ */
 
 static bool is_start(call c)
@@ -991,6 +1072,7 @@ static void make(call c)
 {
     uint8_t *block = room + at, *old = before + at;
     now = c;
+    image_call = NULL;
     made++;
     lend_anew();
     memcpy(before, room, ROOM);
@@ -1014,6 +1096,129 @@ static void make(call c)
     marks_alike(block);
     seen[SEEN_UNITS + block[0]]++;
 }
+
+/* ------------------------------------------------------------------ */
+/* Sentences 12 to 14                                                  */
+/* ------------------------------------------------------------------ */
+
+static uint8_t kept[LONGEST_IMAGE]; /* the image that was saved last, of a reached state */
+static size_t kept_bytes;
+
+/* "length" random bytes, or those of an image, are lent. */
+static void lend_image(const char *name, const uint8_t *image, size_t length)
+{
+    image_call = name;
+    made++;
+    lend_anew();
+    random_bytes(image_room, ROOM);
+    image_at = GUARD + mix_below(&calls, 64);
+    image_bytes = length;
+    if (image != NULL && length > 0)
+        memcpy(image_room + image_at, image, length);
+    memcpy(before, room, ROOM);
+    memcpy(image_before, image_room, ROOM);
+}
+
+static void done(uint64_t answer, const uint8_t *block)
+{
+    uint64_t due = (uint64_t)CLEFTROMI_DONE << 8 | (irq(block) ? 1u : 0u) << 12;
+    must(answer == due, "the answer is not that it was done, with IRQ as it stands");
+}
+
+/* Into random bytes, of which a restore sees nothing. */
+static void restores_to(const uint8_t *image, unsigned due, const uint8_t *block)
+{
+    static uint8_t other[BLOCK];
+    random_bytes(other, BLOCK);
+    uint64_t answer = cleftromi_restore(other, BLOCK, image, image_bytes);
+    must(cleftromi_refusal(answer) == due, "what a save would write is restored, and not saved, or the other way");
+    must(due != 0 || memcmp(other, block, BLOCK) == 0, "what was saved and restored is another state");
+}
+
+static void saves_to(uint8_t *block, const uint8_t *image)
+{
+    static uint8_t again[LONGEST_IMAGE];
+    uint64_t answer = cleftromi_save(block, BLOCK, again, image_bytes);
+    must(cleftromi_refusal(answer) == 0, "what was restored can't be saved");
+    must(memcmp(again, image, image_bytes) == 0, "what was restored and saved has other bytes");
+}
+
+static void make_save(size_t length)
+{
+    static uint8_t due_image[LONGEST_IMAGE], due_block[BLOCK];
+    uint8_t *block = room + at, *old = before + at, *image;
+    lend_image("save", NULL, length);
+    image = image_room + image_at;
+    unsigned due = save_due(old);
+    must(!reached || due != CLEFTROMI_REFUSED_IMAGE_FIELDS, "a reached state is not to be saved");
+    uint64_t answer = cleftromi_save(block, bytes, image, image_bytes);
+    refused_exactly(due, answer);
+    seen[SEEN_NOT_SAVED] += due == CLEFTROMI_REFUSED_IMAGE_FIELDS;
+    if (due == 0 || due == CLEFTROMI_REFUSED_IMAGE_FIELDS) {
+        image_of_block(old, due_image);
+        block_of_image(due_image, old[0], due_block);
+        restores_to(due_image, due, due_block);
+    }
+    if (due == 0) {
+        seen[reached ? SEEN_SAVED : SEEN_SAVED_NOISE]++;
+        memcpy(image_before + image_at, due_image, length);
+        must(memcmp(image, due_image, length) == 0, "a save writes other bytes");
+        must(memcmp(block, due_block, BLOCK) == 0, "a save leaves another state, or not in its written form");
+        done(answer, block);
+        memcpy(kept, image, length);
+        kept_bytes = length;
+    }
+    must(memcmp(image_before, image_room, ROOM) == 0, "a save has changed a byte that it must not");
+}
+
+static void make_restore(const uint8_t *bytes_of_image, size_t length)
+{
+    static uint8_t due_block[BLOCK];
+    uint8_t *block = room + at, *image;
+    lend_image("restore", bytes_of_image, length);
+    image = image_room + image_at;
+    unsigned due = restore_due(image);
+    uint64_t answer = cleftromi_restore(block, bytes, image, image_bytes);
+    refused_exactly(due, answer);
+    must(memcmp(image_before, image_room, ROOM) == 0, "a restore has changed a byte of the image");
+    if (due != 0)
+        return;
+    seen[SEEN_RESTORED]++;
+    reached = true;
+    block_of_image(image, (unsigned)(length / PER_UNIT), due_block);
+    must(memcmp(block, due_block, BLOCK) == 0, "a restore leaves another state than the image has");
+    done(answer, block);
+    saves_to(block, image);
+    no_stray_bit(block);
+    one_match(NULL, block);
+    marks_alike(block);
+}
+
+/* Mostly of the right length. */
+static void some_save(void)
+{
+    unsigned units = mix_below(&calls, 8) ? room[at] % 8 : mix_below(&calls, 8);
+    make_save(mix_below(&calls, 16) ? PER_UNIT * units : mix_below(&calls, LONGEST_IMAGE + 512));
+}
+
+/* The image that was saved last, or one with a byte or two changed; the check
+ * is mostly mended then. */
+static void some_restore(void)
+{
+    static uint8_t image[LONGEST_IMAGE];
+    memcpy(image, kept, kept_bytes);
+    for (unsigned n = mix_below(&calls, 3); n > 0 && kept_bytes > 0; n--) {
+        unsigned changed = mix_below(&calls, (unsigned)kept_bytes);
+        image[changed] ^= (uint8_t)(1u << mix_below(&calls, 8));
+        if (mix_below(&calls, 4))
+            make_add_up(image + changed - changed % PER_UNIT);
+    }
+    make_restore(image, mix_below(&calls, 16) ? kept_bytes : mix_below(&calls, (unsigned)kept_bytes + 1));
+}
+
+/* ------------------------------------------------------------------ */
+/* Histories                                                           */
+/* ------------------------------------------------------------------ */
 
 static const model *planned(void)
 {
@@ -1065,6 +1270,10 @@ static void next(void)
 {
     if (calls.waiting > 0)
         step(mix_next(&calls, NULL));
+    else if (mix_below(&calls, IMAGES) == 0)
+        some_save();
+    else if (mix_below(&calls, IMAGES) == 0)
+        some_restore();
     else if (mix_below(&calls, 3) == 0)
         load_neighbour();
     else
@@ -1155,18 +1364,44 @@ static void events_in_noise(void)
     }
 }
 
+/* Few enabled and no marks, in some, so that there is something to save. */
+static void images_in_noise(void)
+{
+    noise_block();
+    uint8_t *block = room + at;
+    good_count(block);
+    for (unsigned n = mix_below(&calls, 3); n > 0; n--)
+        thin_out(block);
+    for (unsigned m = 0; m < UNITS && mix_below(&calls, 6); m++)
+        block[32 + 16 * m + MARKS] = block[32 + 16 * m + MARKS + 1] = 0;
+    if (mix_below(&calls, 16) == 0)
+        block[0] = (uint8_t)mix_random(&calls);
+    some_save();
+    if (mix_below(&calls, 4) == 0)
+        some_restore();
+}
+
+/* A start, a reset, or a restore of what was saved before. */
+static void begin(call start, call reset)
+{
+    unsigned way = mix_below(&calls, kept_bytes > 0 ? 3 : 2);
+    if (way == 1)
+        room[at] = (uint8_t)start.number[0];
+    for (reached = false; !reached;) /* it may be lent too short */
+        if (way == 2)
+            make_restore(kept, kept_bytes);
+        else
+            make(way == 1 ? reset : start);
+}
+
 static void history(void)
 {
     unsigned count = 1 + (unsigned)(histories % UNITS);
     uint64_t selected = mix_below(&calls, 3) ? mix_below(&calls, count) : CLEFTROMI_NONE;
     call start = {CALL_START, {count, selected, 0}, 0}, reset = {CALL_RESET, {selected, 0, 0}, 0};
-    bool by_reset = mix_below(&calls, 2) != 0;
     for (unsigned n = 0; n < 10; n++)
         noise();
-    if (by_reset)
-        room[at] = (uint8_t)count;
-    for (reached = false; !reached;) /* it may be lent too short */
-        make(by_reset ? reset : start);
+    begin(start, reset);
     histories++;
 }
 
@@ -1185,6 +1420,8 @@ int main(int argc, char **argv)
             next();
         for (unsigned n = 0; n < NOISES; n++)
             events_in_noise();
+        for (unsigned n = 0; n < NOISES / 3; n++)
+            images_in_noise();
     }
     return report();
 }
