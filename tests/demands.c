@@ -55,7 +55,7 @@
 #define UNITS 6u
 #define HISTORY 2500u /* calls: enough to fill a unit or two */
 #define NOISES 120u   /* blocks of noise after each history */
-#define IMAGES 60u    /* of as many plans one is a save, and one a restore */
+#define IMAGES 40u    /* of as many plans one is a save, and one a restore */
 
 /* The block stands somewhere in the room: "before" is the room as it was. */
 static uint8_t room[ROOM], before[ROOM];
@@ -1201,18 +1201,24 @@ static void some_save(void)
     make_save(mix_below(&calls, 16) ? PER_UNIT * units : mix_below(&calls, LONGEST_IMAGE + 512));
 }
 
-/* The image that was saved last, or one with a byte or two changed; the check
- * is mostly mended then. */
+/* A bit of the registers, of a status or of any byte; the check is mostly mended
+ * then. */
+static void damage(uint8_t *part)
+{
+    unsigned kind = mix_below(&calls, 4), status = 34 + 9 * mix_below(&calls, 32) + SSR;
+    unsigned changed = kind == 0 ? status : mix_below(&calls, kind == 1 ? PER_UNIT : 34);
+    part[changed] ^= (uint8_t)(1u << mix_below(&calls, 8));
+    if (mix_below(&calls, 4))
+        make_add_up(part);
+}
+
+/* The image that was saved last, or that with a bit or two changed. */
 static void some_restore(void)
 {
     static uint8_t image[LONGEST_IMAGE];
     memcpy(image, kept, kept_bytes);
-    for (unsigned n = mix_below(&calls, 3); n > 0 && kept_bytes > 0; n--) {
-        unsigned changed = mix_below(&calls, (unsigned)kept_bytes);
-        image[changed] ^= (uint8_t)(1u << mix_below(&calls, 8));
-        if (mix_below(&calls, 4))
-            make_add_up(image + changed - changed % PER_UNIT);
-    }
+    for (unsigned n = mix_below(&calls, 3); n > 0 && kept_bytes > 0; n--)
+        damage(image + PER_UNIT * mix_below(&calls, (unsigned)(kept_bytes / PER_UNIT)));
     make_restore(image, mix_below(&calls, 16) ? kept_bytes : mix_below(&calls, (unsigned)kept_bytes + 1));
 }
 
@@ -1377,7 +1383,7 @@ static void images_in_noise(void)
     if (mix_below(&calls, 16) == 0)
         block[0] = (uint8_t)mix_random(&calls);
     some_save();
-    if (mix_below(&calls, 4) == 0)
+    if (mix_below(&calls, 2))
         some_restore();
 }
 
