@@ -1,5 +1,6 @@
-/* cost prepare UNITS FILE: fills every descriptor of every unit, in the library
- * and in the model, and saves both states.
+/* cost prepare all|few UNITS FILE: fills every descriptor of every unit, or the
+ * last of the last one alone, in the library and in the model, and saves both
+ * states and their image.
  * cost ours|model OPERATION CALLS FILE: takes up a saved state and makes one
  * call that many times.  tests/cost counts the instructions of two such runs. */
 #include <stdio.h>
@@ -8,9 +9,10 @@
 #include "cleftromi.h"
 #include "layout.h"
 #include "model.h"
+#include "model_image.h"
 #include "pair.h"
 
-static uint8_t block[LAYOUT_BYTES];
+static uint8_t block[LAYOUT_BYTES], image[IMAGE_LONGEST];
 static model m;
 
 static const uint64_t code = 1;
@@ -58,23 +60,35 @@ static void load_segment(unsigned number)
         fail("a load clashes");
 }
 
+static void save_both(void)
+{
+    static uint8_t plain[IMAGE_LONGEST];
+    size_t length = CLEFTROMI_IMAGE_BYTES(m.count);
+    uint64_t ours = cleftromi_save(block, sizeof block, image, length);
+    if (ours != layout_answer(model_save(&m, plain, length)) || memcmp(image, plain, length) != 0)
+        fail("the images of the library and the model differ");
+}
+
 /* The accumulator and DP are left with the last descriptor of the last unit. */
-static void prepare(unsigned units, const char *path)
+static void prepare(bool all, unsigned units, const char *path)
 {
     call start = {CALL_START, {units, CLEFTROMI_NONE, 0}, 0};
     on_both(start);
-    for (unsigned i = 0; i <= last_segment(units); i++)
+    for (unsigned i = all ? 0 : last_segment(units); i <= last_segment(units); i++)
         load_segment(i);
     set(0, CLEFTROMI_AST(code), space);
+    save_both();
     FILE *f = fopen(path, "wb");
-    if (f == NULL || fwrite(block, sizeof block, 1, f) != 1 || fwrite(&m, sizeof m, 1, f) != 1 || fclose(f) != 0)
+    if (f == NULL || fwrite(block, sizeof block, 1, f) != 1 || fwrite(&m, sizeof m, 1, f) != 1 ||
+        fwrite(image, sizeof image, 1, f) != 1 || fclose(f) != 0)
         fail("the state can't be saved");
 }
 
 static void take_up(const char *path)
 {
     FILE *f = fopen(path, "rb");
-    if (f == NULL || fread(block, sizeof block, 1, f) != 1 || fread(&m, sizeof m, 1, f) != 1)
+    if (f == NULL || fread(block, sizeof block, 1, f) != 1 || fread(&m, sizeof m, 1, f) != 1 ||
+        fread(image, sizeof image, 1, f) != 1)
         fail("there is no saved state");
     fclose(f);
 }
@@ -139,20 +153,49 @@ static uint64_t call_plain(call c, long calls)
     return layout_answer(answer);
 }
 
+/* The same of saves and restores, of the image that was prepared. */
+static uint64_t image_ours(bool saves, size_t length, long calls)
+{
+    uint64_t answer = 0;
+    for (long i = 0; i < calls; i++)
+        answer = saves ? cleftromi_save(block, sizeof block, image, length)
+                       : cleftromi_restore(block, sizeof block, image, length);
+    return answer;
+}
+
+static uint64_t image_plain(bool saves, size_t length, long calls)
+{
+    model_answer answer = {0, 0, 0, 0, 0, 0, 0, 0};
+    for (long i = 0; i < calls; i++)
+        answer = saves ? model_save(&m, image, length) : model_restore(&m, image, length);
+    return layout_answer(answer);
+}
+
+static uint64_t answer_to(bool ours, const char *name, long calls, model_answer *wanted)
+{
+    static const model_answer done = {0, MODEL_DONE, 0, 0, 0, 0, 0, 0};
+    bool saves = strcmp(name, "save") == 0;
+    if (saves || strcmp(name, "restore") == 0) {
+        size_t length = CLEFTROMI_IMAGE_BYTES(m.count);
+        *wanted = done;
+        return ours ? image_ours(saves, length, calls) : image_plain(saves, length, calls);
+    }
+    call c = operation(name, m.count, wanted);
+    return ours ? call_ours(c, calls) : call_plain(c, calls);
+}
+
 int main(int argc, char **argv)
 {
-    if (argc == 4 && strcmp(argv[1], "prepare") == 0) {
-        prepare((unsigned)strtoul(argv[2], NULL, 10), argv[3]);
+    if (argc == 5 && strcmp(argv[1], "prepare") == 0) {
+        prepare(strcmp(argv[2], "all") == 0, (unsigned)strtoul(argv[3], NULL, 10), argv[4]);
         return 0;
     }
     if (argc != 5)
-        fail("prepare UNITS FILE, or ours|model OPERATION CALLS FILE");
+        fail("prepare all|few UNITS FILE, or ours|model OPERATION CALLS FILE");
     model_answer wanted;
     take_up(argv[4]);
-    call c = operation(argv[2], m.count, &wanted);
-    long calls = strtol(argv[3], NULL, 10);
-    bool ours = strcmp(argv[1], "ours") == 0;
-    if ((ours ? call_ours(c, calls) : call_plain(c, calls)) != layout_answer(wanted))
+    uint64_t answer = answer_to(strcmp(argv[1], "ours") == 0, argv[2], strtol(argv[3], NULL, 10), &wanted);
+    if (answer != layout_answer(wanted))
         fail("the answer is not the one expected");
     return 0;
 }
