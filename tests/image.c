@@ -620,20 +620,76 @@ static void two_segments(const image *good)
     mended(&i, GRANTED, "one of the two disabled");
 }
 
-/* Any two places, with segments that match everything. */
+/* Every two places, with segments that match everything: all of them for one, two
+ * and six units, some of them for the others. */
 static void every_two_places(const image *good)
 {
     static image i;
     static const uint8_t everything[9] = {0};
     unsigned all = 32 * good->count;
-    for (unsigned a = 0; a < all; a += good->count > 2 ? 13 : 1)
-        for (unsigned b = a + 1; b < all; b += good->count > 2 ? 7 : 1) {
+    bool some = good->count > 2 && good->count < UNITS;
+    for (unsigned a = 0; a < all; a += some ? 13 : 1)
+        for (unsigned b = a + 1; b < all; b += some ? 7 : 1) {
             i = *good;
             disable_all(&i);
             put_segment(&i, a, everything);
             put_segment(&i, b, everything);
             mended(&i, FIELDS, "two that match everything");
         }
+}
+
+/* ------------------------------------------------------------------ */
+/* States that are not saved                                           */
+/* ------------------------------------------------------------------ */
+
+static void must_save(const uint8_t *block, unsigned due, const char *what)
+{
+    lend_block(block);
+    lend_room(right_length());
+    must_be(save(what), due, what);
+}
+
+/* Two places of a block in which nothing else is enabled. */
+static void clash_saved(uint8_t *block, unsigned a, unsigned b)
+{
+    uint8_t *one = block + 128 + 9 * a, *other = block + 128 + 9 * b;
+    memset(one, 0, 9);
+    memset(other, 0, 9);
+    one[7] = other[7] = CLEFTROMI_SSR_E;
+    must_save(block, FIELDS, "a state with a clash");
+    other[7] = 0;
+    must_save(block, GRANTED, "a state with one of the two disabled");
+    one[7] = 0;
+}
+
+static void marked_saved(uint8_t *block, unsigned a, unsigned b, unsigned n)
+{
+    uint8_t *one = block + 32 + 16 * a, *other = block + 32 + 16 * b;
+    one[n] = (uint8_t)mix_random(&calls);
+    other[n] = one[n] ^ not_zero();
+    one[9 + n / 8] = other[9 + n / 8] = (uint8_t)(1u << n % 8);
+    must_save(block, FIELDS, "a state with a byte marked in two units, not equal");
+    other[n] = one[n];
+    must_save(block, GRANTED, "a state with a byte marked in two units, equal");
+    one[9 + n / 8] = other[9 + n / 8] = 0;
+}
+
+/* Of a fresh block, with nothing enabled and no marks. */
+static void not_to_be_saved(unsigned count)
+{
+    static uint8_t block[LAYOUT_BYTES];
+    unsigned all = 32 * count;
+    call start = {CALL_START, {count, CLEFTROMI_NONE, 0}, 0};
+    lend_noise();
+    make(start);
+    memcpy(block, both.room + both.at, LAYOUT_BYTES);
+    for (unsigned a = 0; a < all; a += count == 1 ? 1 : 11)
+        for (unsigned b = a + 1; b < all; b += count == 1 ? 1 : 5)
+            clash_saved(block, a, b);
+    for (unsigned b = 1; b < count; b++)
+        for (unsigned a = 0; a < b; a++)
+            for (unsigned n = 0; n < 9; n++)
+                marked_saved(block, a, b, n);
 }
 
 /* ------------------------------------------------------------------ */
@@ -1118,6 +1174,7 @@ static void images_with_faults(unsigned count)
     for (unsigned n = 0; n < 800; n++)
         two_segments(&other);
     every_two_places(&other);
+    not_to_be_saved(count);
     every_two_faults(&other);
     other_blocks(&good, &other);
     other_blocks(&other, &good);
