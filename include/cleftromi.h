@@ -150,7 +150,8 @@ uint64_t cleftromi_acknowledge(uint8_t *state, size_t bytes, uint64_t unit);
 
 /* Writes the board into the image: all of its `image_bytes` bytes, which must be
  * CLEFTROMI_IMAGE_BYTES of the count of units that the board has, and none
- * beyond.  It does not matter what stood there.  The board goes on as it was.
+ * beyond.  It does not matter what stood there.  The board goes on as it was; the
+ * block is written anew, as by every call that is granted.
  *
  * Refusals, the first that applies of 7, 1, 8, 10.  10 is given exactly when a
  * restore would not take the image back.  That never happens to a board that

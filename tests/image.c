@@ -1,13 +1,13 @@
 /* image SEED HISTORIES FILE: saves and restores by the library and by the model,
  * compared: the answer, the block and the image, and every byte around both.
  *
+ *   - FILE, an image that was kept, and the calls that it came from;
  *   - states that random histories reach, saved, and restored into random bytes;
  *     the calls that follow; saves and restores among the calls of a history;
  *   - blocks that no history reaches, saved;
  *   - images with one fault and with two, of one to six units;
  *   - blocks of an image in another order, too few and too many;
- *   - every length of an image up to 3,600, and lengths of the lent block;
- *   - FILE, an image that was kept, and the calls that it came from.
+ *   - every length of an image up to 3,600, and lengths of the lent block.
  *
  * Where the request says what the answer is, the number stands here too: so the
  * model is tested as well. */
@@ -1209,12 +1209,12 @@ int main(int argc, char **argv)
     seed = strtoull(argv[1], NULL, 0);
     unsigned long histories = strtoul(argv[2], NULL, 0);
     mix_begin(&calls, seed);
+    kept_image(argv[3]);
     for (unsigned long n = 0; n < histories; n++)
         history(1 + (unsigned)(n % UNITS));
     for (unsigned long n = 0; n < 40 * histories; n++)
         noise_saved();
     for (unsigned count = 1; count <= UNITS; count++)
         images_with_faults(count);
-    kept_image(argv[3]);
     return report();
 }
