@@ -3,25 +3,20 @@
 --     system-back      a system in clean form is what its written form reads as, whatever follows
 -- Assumes nothing.
 use Prim.Native.Nat.{ℕ, _*_, _-_, _%_, _<_, _≤_}
-use mathlib.Core.Path.{_≡_, refl, sym, ap, subst}
-use mathlib.Core.Bool.{Bool}
+use mathlib.Core.Path.{_≡_, refl, sym, ap}
 use mathlib.Core.List.{List, _++_, append-assoc}
 use native.Mathlib.Omega.{arith}
 use lib.ListN.{length, drop, getD, replicate, length-append, length-replicate}
 use lib.Seq.{take-at, drop-at, drop-drop}
-use lib.Dec.{lit<}
 use borrow.Author.Tests.{le-ltb}
-use Rattle.masks.proofs.Bits.{bit-field}
-use Rattle.pieces.specs.Pieces.{list-of, pieces}
+use Rattle.pieces.specs.Pieces.{pieces}
 use Rattle.pieces.proofs.Bytes.{word-back}
 use Rattle.pieces.proofs.Parts.{length-pieces, pieces-at}
-use Rattle.pieces.proofs.Stores.{listed}
 use Rattle.descriptors.specs.Descriptor.{zeros}
-use Rattle.registers.specs.Unit.{local, byte, marks, accumulator-of, no-unit}
-use Rattle.registers.proofs.Back.{held-l, held-rw, gsr-back}
+use Rattle.registers.specs.Unit.{marks, no-unit}
+use Rattle.registers.proofs.Back.{held-l, held-rw, gsr-back, accumulator-back}
 use Rattle.chip.specs.Reset.{blank}
 use Rattle.descriptors.specs.declared.descriptor.Descriptor.{Descriptor}
-use Rattle.registers.specs.declared.unit.Byte.{Byte}
 use Rattle.registers.specs.declared.unit.Unit.{Unit}
 use Rattle.registers.specs.declared.shared.Shared.{Shared}
 use Rattle.chip.specs.declared.system.System.{System}
@@ -37,31 +32,11 @@ pub descriptor-back : (d : Descriptor) (r : List ℕ) → Clean-descriptor d →
 unfolding descriptor-of descriptor-bytes
 descriptor-back d r c = rw (word-back (d .lba), word-back (d .lam), word-back (d .pba), c .ssr)
 
-nine-of : (l : List Byte) → length l ≡ 9 → list-of 9 (λ i. getD l i (local 0)) ≡ l
-nine-of l e = subst (λ (n : ℕ). list-of n (λ i. getD l i (local 0)) ≡ l) e (listed (local 0) l)
-
 pub unit-back : (u : Unit) (r : List ℕ) → Clean-unit u → unit-of (unit-bytes u ++ r) ≡ u
-unfolding unit-of unit-bytes accumulator-of marks
+unfolding unit-of unit-bytes
 unit-back u r c =
-    let global : ℕ → Bool = λ i. byte u i .global in
     let five : u .dp % 32 ≡ u .dp = omega (arith, c .dp) in
-    rw (
-      word-back (marks u),
-      bit-field 9 global 0 (lit< tt),
-      bit-field 9 global 1 (lit< tt),
-      bit-field 9 global 2 (lit< tt),
-      bit-field 9 global 3 (lit< tt),
-      bit-field 9 global 4 (lit< tt),
-      bit-field 9 global 5 (lit< tt),
-      bit-field 9 global 6 (lit< tt),
-      bit-field 9 global 7 (lit< tt),
-      bit-field 9 global 8 (lit< tt),
-      nine-of (u .accumulator) (c .bytes),
-      five,
-      c .rdp,
-      held-l u (c .l),
-      held-rw u,
-    )
+    rw (word-back (marks u), accumulator-back u (c .bytes), five, c .rdp, held-l u (c .l), held-rw u)
 
 pub shared-back : (h : Shared) (r : List ℕ) → Clean-shared h → shared-of (shared-bytes h ++ r) ≡ h
 unfolding shared-of shared-bytes

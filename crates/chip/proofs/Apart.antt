@@ -10,8 +10,8 @@ use lib.ListN.{length}
 use borrow.Author.Tests.{eqb-true, eqb-false, ltb-true, not-false}
 use Rattle.masks.specs.Fields.{bit}
 use Rattle.descriptors.specs.Status.{E}
-use Rattle.descriptors.specs.Descriptor.{enabled, Clash, clashes, with-ssr, zeros}
-use Rattle.descriptors.proofs.Clash.{clash-law}
+use Rattle.descriptors.specs.Descriptor.{enabled, clashes, with-ssr, zeros}
+use Rattle.descriptors.proofs.Clash.{clash-either-way}
 use Rattle.descriptors.specs.declared.descriptor.Descriptor.{Descriptor}
 use Rattle.registers.specs.declared.shared.Board.{Board}
 use Rattle.chip.specs.System.{present, descriptor, with-units, with-shared, with-descriptor}
@@ -26,12 +26,6 @@ use Rattle.chip.proofs.Parts.{descriptor-there, descriptor-elsewhere}
 use Rattle.chip.proofs.Steps.{Clear, Steps, stays, renewed, units, turned, global, one-unit, shared, status, loaded, steps-clean}
 
 -- ---- a descriptor replaced by one that clashes with no other
-
-clash-either-way : (d e : Descriptor) → clashes d e ≡ true → clashes e d ≡ true
-unfolding Clash
-clash-either-way d e c =
-    let k = clash-law d e .0 c in
-    clash-law e d .1 (k .0, k .1, k .2, k .3, k .5, k .4)
 
 module _ (s : System) (i : ℕ) (d : Descriptor) (there : i < length (s .descriptors)) (apart : Apart s) (clear : Clear d i s) where
   t : System

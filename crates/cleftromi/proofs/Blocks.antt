@@ -3,6 +3,7 @@
 --     short-answer       one that is too short: 7
 --     Holds t b          the block b is long enough, reads as t, and is t's one written form
 --     form-holds         the written form of a clean system does, whatever follows it
+--     told-is, told-alone     what an answer tells, and what a refusal leaves, whatever the call
 --     refusal-is         the answer tells the table's refusal
 --     refused-alone      which is then the whole answer, and the block is as it was
 --     Granted c b        the block is long enough, and no check applies
@@ -33,7 +34,7 @@ use Rattle.pieces.specs.Pieces.{Bytes}
 use Rattle.block.specs.Layout.{size, short, form, read, written}
 use Rattle.block.proofs.Round.{length-form, system-back}
 use Rattle.block.proofs.Tidy.{read-clean}
-use Rattle.cleftromi.specs.Interface.{refusals, answer, after}
+use Rattle.cleftromi.specs.Interface.{refusals, told, left, answer, after}
 use Rattle.cleftromi.specs.Fields.{number-of, refusal}
 use Rattle.cleftromi.proofs.Fields.{refusal-back}
 
@@ -82,26 +83,24 @@ form-holds t rest c =
 fits : (c : Call) (b : List ℕ) → first-of (refusals c b) < 2 ^ 8
 fits c b = either (λ (n : ℕ). n < 2 ^ 8) (short b) (λ e. lit< tt) (λ e. rw (← performed-number c (read b)) (number-fits c (read b)))
 
--- the answer tells which refusal it is, or that there is none
+-- an answer tells which refusal it is, or that there is none; a refusal is then all of it, and the block stays
+pub told-is : (n : ℕ) (o : Outcome) → n < 2 ^ 8 → values (o .answer) .number ≡ 0 → refusal (told n o) ≡ n
+told-is n o fits zero = go (eqb n 0) refl
+  where
+    go : (t : Bool) → eqb n 0 ≡ t → refusal (cond t (number-of (values (o .answer)) (o .irq)) n) ≡ n
+    go true e = refusal-back (values (o .answer)) (o .irq) (omega arith) ∙ zero ∙ sym (eqb-true n 0 e)
+    go false e = omega arith
+
+pub told-alone : (n : ℕ) (o : Outcome) (b : List ℕ) → n ≢ 0 → (told n o ≡ n) × (left n o b ≡ b)
+told-alone n o b h = (rw (ne-eqb n 0 h) refl, rw (ne-eqb n 0 h) refl)
+
 pub refusal-is : (c : Call) (b : List ℕ) → refusal (answer c b) ≡ first-of (refusals c b)
 unfolding answer
-refusal-is c b = go (eqb n 0) refl
-  where
-    n : ℕ
-    n = first-of (refusals c b)
-
-    o : Outcome
-    o = carried-out c (read b)
-
-    go : (t : Bool) → eqb n 0 ≡ t → refusal (cond t (number-of (values (o .answer)) (o .irq)) n) ≡ n
-    go true e =
-        let zero = carried-out-granted c (read b) in
-        refusal-back (values (o .answer)) (o .irq) (omega arith) ∙ zero ∙ sym (eqb-true n 0 e)
-    go false e = omega (arith, fits c b)
+refusal-is c b = told-is (first-of (refusals c b)) (carried-out c (read b)) (fits c b) (carried-out-granted c (read b))
 
 first-alone : (c : Call) (b : List ℕ) → first-of (refusals c b) ≢ 0 → (answer c b ≡ first-of (refusals c b)) × (after c b ≡ b)
 unfolding answer after
-first-alone c b n = (rw (ne-eqb _ _ n) refl, rw (ne-eqb _ _ n) refl)
+first-alone c b n = told-alone (first-of (refusals c b)) (carried-out c (read b)) b n
 
 pub refused-alone : (c : Call) (b : List ℕ) → refusal (answer c b) ≢ 0 → (answer c b ≡ refusal (answer c b)) × (after c b ≡ b)
 refused-alone c b n = rw (refusal-is c b) (first-alone c b (rw (refusal-is c b) at n))

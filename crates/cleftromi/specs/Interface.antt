@@ -8,7 +8,8 @@ use Rattle.chip.specs.Answer.{values, granted, first-of, numbered}
 use Rattle.chip.specs.Call.{checks, carried-out}
 use Rattle.cleftromi.specs.Fields.{number-of}
 use Rattle.block.specs.Layout.{short, read, written}
-use Rattle.image.specs.Image.{form, system-of, save-refusals, refusals as image-refusals}
+use Rattle.image.specs.Image as image
+use Rattle.image.specs.Image.{form, system-of}
 use Rattle.chip.specs.declared.answer.Answer.the-variants.{Done}
 use Rattle.chip.specs.declared.answer.Outcome.{Outcome}
 use Rattle.chip.specs.declared.access.Cycle.{Cycle}
@@ -51,32 +52,26 @@ answer call b = told (first-of (refusals call b)) (carried-out call (read b))
 unfoldable pub after : Call → (block : List ℕ) → List ℕ
 after call b = left (first-of (refusals call b)) (carried-out call (read b)) b
 
--- ---- Document 02, P2. A save checks: 7, then what image checks. It is done, and leaves the state as it was
-abbrev pub save-refusal : (block image : List ℕ) → ℕ
-save-refusal b i = first-of ((7, short b) ∷ save-refusals (length i) (read b))
-
-abbrev pub save-done : (block : List ℕ) → Outcome
-save-done b = granted Done (read b)
+-- ---- Document 02, P2. A save: what it checks, in this order; it is done, and leaves the state as it was
+abbrev pub save-refusals : (block image : List ℕ) → List (ℕ × Bool)
+save-refusals b i = (7, short b) ∷ image.save-refusals (length i) (read b)
 
 unfoldable pub save-answer : (block image : List ℕ) → ℕ
-save-answer b i = told (save-refusal b i) (save-done b)
+save-answer b i = told (first-of (save-refusals b i)) (granted Done (read b))
 
 unfoldable pub save-after : (block image : List ℕ) → List ℕ
-save-after b i = left (save-refusal b i) (save-done b) b
+save-after b i = left (first-of (save-refusals b i)) (granted Done (read b)) b
 
--- what the image then holds
+-- and the image holds the state
 unfoldable pub save-image : (block image : List ℕ) → List ℕ
-save-image b i = cond (eqb (save-refusal b i) 0) (form (read b)) i
+save-image b i = cond (eqb (first-of (save-refusals b i)) 0) (form (read b)) i
 
--- A restore checks: 7, then the image. It is done, and leaves the state that the image holds
-abbrev pub restore-refusal : (block image : List ℕ) → ℕ
-restore-refusal b i = first-of ((7, short b) ∷ image-refusals i)
-
-abbrev pub restore-done : (image : List ℕ) → Outcome
-restore-done i = granted Done (system-of i)
+-- A restore: what it checks, in this order; it is done, and leaves the state that the image holds
+abbrev pub restore-refusals : (block image : List ℕ) → List (ℕ × Bool)
+restore-refusals b i = (7, short b) ∷ image.refusals i
 
 unfoldable pub restore-answer : (block image : List ℕ) → ℕ
-restore-answer b i = told (restore-refusal b i) (restore-done i)
+restore-answer b i = told (first-of (restore-refusals b i)) (granted Done (system-of i))
 
 unfoldable pub restore-after : (block image : List ℕ) → List ℕ
-restore-after b i = left (restore-refusal b i) (restore-done i) b
+restore-after b i = left (first-of (restore-refusals b i)) (granted Done (system-of i)) b

@@ -67,3 +67,8 @@ unfolding Clash
 clash-matches d e ed ee c =
     let k = clash-law d e .0 c in
     (k .0, k .1, k .2, k .3, matches-of d (k .0) (k .1) ed (k .4), matches-of e (k .0) (k .1) ee (k .5))
+
+-- a clash is one in either order
+pub clash-either-way : (d e : Descriptor) → clashes d e ≡ true → clashes e d ≡ true
+unfolding Clash
+clash-either-way d e c = let k = clash-law d e .0 c in clash-law e d .1 (k .0, k .1, k .2, k .3, k .5, k .4)

@@ -4,14 +4,13 @@
 --     accepted-exactly      there is none exactly when the length fits, each block adds up, and the image could satisfy 01
 --     accepted         what that says of each block, and of the system
 -- Assumes nothing.
-use Prim.Native.Nat.{ℕ, zero, suc, _*_, _/_, _%_, _<_, _≤_}
+use Prim.Native.Nat.{ℕ, _*_, _/_, _%_, _^_, _<_, _≤_}
 use mathlib.Core.Path.{_≡_, refl, sym, ap, _∙_}
-use mathlib.Core.Logic.{_≢_, _↔_, ⊎-elim}
+use mathlib.Core.Logic.{_≢_, _↔_}
 use mathlib.Core.Bool.{Bool, true, false, not, _&&_, _||_, cond, true≢false, and-eq-true-iff}
 use mathlib.Core.List.{List, [], _∷_, _++_}
-use native.Mathlib.Nat.{le-of-suc-le-suc, not-suc-le-zero, eq-or-lt-of-le}
 use native.Mathlib.Omega.{arith}
-use lib.Dec.{eqb, ltb}
+use lib.Dec.{eqb, ltb, lit<}
 use lib.ListN.{length}
 use borrow.Author.Tests.{eqb-true, eqb-false, not-false}
 use Rattle.masks.specs.Fields.{every}
@@ -22,7 +21,7 @@ use Rattle.chip.proofs.Counts.{well-counted}
 use Rattle.image.specs.Block.{size, count, adds-up}
 use Rattle.image.specs.Rules.{own, counted, same-shared, sound}
 use Rattle.image.specs.Image.{blocks, from-block, system-of, across, could-satisfy-01, misfit, block-refusals, refusals, refusal}
-use Rattle.image.proofs.Refused.{Proper, first-past, first-stays, proper-pieces}
+use Rattle.image.proofs.Refused.{Proper, first-past, first-stays, proper-append, proper-pieces, first-fits, none-of-both, past-row, none-of-pieces}
 
 either : (a b : Bool) → a || b ≡ false → (a ≡ false) × (b ≡ false)
 either true b e = absurd (true≢false e)
@@ -41,8 +40,18 @@ well-sized bytes e =
     record { some = omega arith; few = well-counted _ (both .1); whole = omega arith }
 
 module _ (image : List ℕ) where
-  proper : (m : ℕ) → Proper (block-refusals image m)
-  proper m = (λ e. omega arith, (λ e. omega arith, tt))
+  pub proper : (m : ℕ) → Proper (block-refusals image m)
+  proper m = (λ e. omega arith, lit< tt, (λ e. omega arith, lit< tt, tt))
+
+  -- a refusal is a byte
+  pub refusal-fits : refusal image < 2 ^ 8
+  unfolding refusals
+  refusal-fits =
+      first-fits (refusals image) (
+        λ e. omega arith,
+        lit< tt,
+        proper-append (pieces (blocks image) (block-refusals image)) _ (proper-pieces (blocks image) (block-refusals image) proper) (λ e. omega arith, lit< tt, tt),
+      )
 
   pub refusal-length : misfit (length image) ≡ true → refusal image ≡ 8
   unfolding refusals
@@ -58,29 +67,6 @@ module _ (image : List ℕ) where
   unfolding refusals
   refusal-across e z =
       rw e (first-past (pieces (blocks image) (block-refusals image)) ((10, not (across image)) ∷ []) (proper-pieces (blocks image) (block-refusals image) proper) z)
-
--- ---- no row applies: of two tables, of one row above others, and of pieces
-none-of-both : (rows more : List (ℕ × Bool)) → Proper rows → (first-of (rows ++ more) ≡ 0) ↔ ((first-of rows ≡ 0) × (first-of more ≡ 0))
-none-of-both rows more p = (λ e. go (eqb (first-of rows) 0) refl e, λ h. first-past rows more p (h .0) ∙ h .1)
-  where
-    go : (t : Bool) → eqb (first-of rows) 0 ≡ t → first-of (rows ++ more) ≡ 0 → (first-of rows ≡ 0) × (first-of more ≡ 0)
-    go true q e = let z = eqb-true (first-of rows) 0 q in (z, sym (first-past rows more p z) ∙ e)
-    go false q e = let n = eqb-false (first-of rows) 0 q in absurd (n (sym (first-stays rows more n) ∙ e))
-
-past-row : (number : ℕ) (b : Bool) (rest : ℕ) → number ≢ 0 → (cond b number rest ≡ 0) ↔ ((b ≡ false) × (rest ≡ 0))
-past-row number true rest n = (λ e. absurd (n e), λ h. absurd (true≢false (h .0)))
-past-row number false rest n = (λ e. (refl, e), λ h. h .1)
-
-none-of-pieces : (f : ℕ → List (ℕ × Bool)) → ((m : ℕ) → Proper (f m)) → (n : ℕ)
-    → (first-of (pieces n f) ≡ 0) ↔ ((m : ℕ) → m < n → first-of (f m) ≡ 0)
-unfolding pieces
-none-of-pieces f p zero = (λ e m h. absurd (not-suc-le-zero h), λ h. refl)
-none-of-pieces f p (suc n) =
-    let both = none-of-both (pieces n f) (f n) (proper-pieces n f p) in
-    let below = none-of-pieces f p n in (
-      λ e m h. ⊎-elim (λ q. rw q (both .0 e .1)) (λ l. below .0 (both .0 e .0) m l) (eq-or-lt-of-le (le-of-suc-le-suc h)),
-      λ h. both .1 (below .1 (λ m l. h m (omega arith)), h n (omega arith)),
-    )
 
 -- ---- acceptance
 module _ (image : List ℕ) where

@@ -4,3 +4,7 @@ pub mod Accepted
 pub mod Sound
 pub mod Restored
 pub mod Round
+pub mod Cut
+pub mod Owned
+pub mod Again
+pub mod Back

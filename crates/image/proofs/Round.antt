@@ -18,7 +18,7 @@ use Rattle.masks.proofs.Bits.{bit-field, every-at, field-fits}
 use Rattle.pieces.specs.Pieces.{list-of, pieces, high-first}
 use Rattle.pieces.proofs.Bytes.{word-back}
 use Rattle.pieces.proofs.Parts.{length-pieces, pieces-at}
-use Rattle.pieces.proofs.Stores.{everywhere, listed, at-listed, listed-alike}
+use Rattle.pieces.proofs.Stores.{everywhere, listed-as}
 use Rattle.descriptors.specs.Status.{clean}
 use Rattle.descriptors.specs.Descriptor.{bytes, zeros}
 use Rattle.descriptors.specs.Clean.{Clean-descriptor}
@@ -27,7 +27,7 @@ use Rattle.registers.specs.Unit.{local, byte, rdp-of, ac, marks as marks-of, ma
 use Rattle.registers.specs.Shared.{entry, gsr-byte}
 use Rattle.registers.specs.Clean.{Clean-unit, Clean-shared}
 use Rattle.registers.proofs.Numbers.{small, rdp-fits}
-use Rattle.registers.proofs.Back.{held-l, held-rw, gsr-back}
+use Rattle.registers.proofs.Back.{held-l, held-rw, gsr-back, accumulator-back}
 use Rattle.chip.specs.System.{present, unit, descriptor}
 use Rattle.chip.specs.Reset.{blank}
 use Rattle.chip.specs.Answer.{first-of}
@@ -41,8 +41,8 @@ use Rattle.image.specs.Block.{shared-of, unit-of, descriptor-of}
 use Rattle.image.specs.Rules.{clear, registers-clear, nvr-alone, allowed, own, same-shared, sound}
 use Rattle.image.specs.Image.{form, blocks, from-block, system-of, across, misfit, block-refusals, refusal}
 use Rattle.image.proofs.Words.{words-front, length-fields, length-block}
-use Rattle.image.proofs.Refused.{Proper, one-more}
-use Rattle.image.proofs.Accepted.{refusal-across}
+use Rattle.image.proofs.Refused.{none-of-pieces}
+use Rattle.image.proofs.Accepted.{proper, refusal-across}
 
 pub length-form : (s : System) → length (s .shared .table) ≡ 16 → length (form s) ≡ 512 * present s
 unfolding form
@@ -64,17 +64,6 @@ head s m = head-of s m (list-of 16 (entry (s .shared)))
 
 nine-bytes : System → (m n : ℕ) → List ℕ
 nine-bytes s m n = bytes (descriptor s (32 * m + n))
-
-listed-as : {A : Type 0} (d : A) (l : List A) (n : ℕ) → length l ≡ n → list-of n (λ i. getD l i d) ≡ l
-listed-as d l n e = subst (λ (n : ℕ). list-of n (λ i. getD l i d) ≡ l) e (listed d l)
-
--- the nine bytes with their marks
-accumulator-back : (u : Unit) → length (u .accumulator) ≡ 9 → accumulator-of (list-of 9 (ac u)) (marks-of u) ≡ u .accumulator
-unfolding accumulator-of marks-of
-accumulator-back u e =
-    listed-alike 9 (λ i. marked (getD (list-of 9 (ac u)) i 0) (marks-of u) i) (byte u)
-    (λ i h. rw (at-listed 0 9 (ac u) i h, bit-field 9 (λ i. byte u i .global) i h))
-    ∙ listed-as (local 0) (u .accumulator) 9 e
 
 nine-back : (d : Descriptor) (n : ℕ) (b r : List ℕ) → drop (place n) b ≡ bytes d ++ r → descriptor-of n b ≡ d
 unfolding descriptor-of
@@ -115,7 +104,7 @@ module _ (s : System) (table : length (s .shared .table) ≡ 16) (m : ℕ) (r : 
   laid =
       let rest : List ℕ = pieces 32 (nine-bytes s m) ++ (replicate 188 0 ++ after) in
       let parts : block s m ++ r ≡ head-of s m (s .shared .table) ++ rest = rw (append-assoc, append-assoc, append-assoc) in
-      parts ∙ ap (λ (t : List ℕ). head-of s m t ++ rest) (sym (listed-as 0 (s .shared .table) 16 table))
+      parts ∙ ap (λ (t : List ℕ). head-of s m t ++ rest) (sym (listed-as 0 16 (s .shared .table) table))
 
   -- ---- what is read
   number-back : number (block s m ++ r) ≡ m
@@ -130,7 +119,7 @@ module _ (s : System) (table : length (s .shared .table) ≡ 16) (m : ℕ) (r : 
   unfolding shared-of head head-of
   shared-back c =
       let one-byte : s .shared .board .count % 256 ≡ s .shared .board .count = omega (arith, c .count) in
-      rw (laid, listed-as 0 (s .shared .table) 16 table, gsr-back (s .shared .gsr), one-byte)
+      rw (laid, listed-as 0 16 (s .shared .table) table, gsr-back (s .shared .gsr), one-byte)
 
   unit-back : Clean-unit (unit s m) → unit-of (block s m ++ r) ≡ unit s m
   unfolding unit-of head head-of
@@ -266,16 +255,6 @@ module _ (s : System) (c : Clean s) (some : 1 ≤ s .shared .board .count) (few 
         eq-eqb (count (block s m ++ at .0)) (present s) (omega arith),
       )
 
-  proper : (m : ℕ) → Proper (block-refusals (form s) m)
-  proper m = (λ e. omega arith, (λ e. omega arith, tt))
-
-  blocks-pass : (n : ℕ) → n ≤ present s → first-of (pieces n (block-refusals (form s))) ≡ 0
-  unfolding pieces
-  blocks-pass zero h = refl
-  blocks-pass (suc n) h =
-      let below = blocks-pass n (omega arith) in
-      rw add-one at (one-more (block-refusals (form s)) proper n below (block-passes n (omega arith)))
-
   shared-passes : (m : ℕ) → m < present s → same-shared (form s) (from-block m (form s)) ≡ true
   shared-passes m h = let at = stands m h in rw (at .1, first .1) (shared-same s table 0 m (first .0) (at .0))
 
@@ -286,5 +265,5 @@ module _ (s : System) (c : Clean s) (some : 1 ≤ s .shared .board .count) (few 
 
   pub form-refusal : refusal (form s) ≡ cond (not (sound s)) 10 0
   form-refusal =
-      refusal-across (form s) fits (rw blocks-form (blocks-pass (present s) (omega arith)))
+      refusal-across (form s) fits (rw blocks-form (none-of-pieces _ (proper (form s)) (present s) .1 block-passes))
       ∙ ap (λ (b : Bool). cond (not b) 10 0) across-form

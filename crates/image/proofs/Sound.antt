@@ -1,5 +1,4 @@
 -- A system in clean form is sound exactly when its marked bytes agree and its enabled descriptors are apart.
---     clash-turned         a clash is one in either order
 --     agreed-law, apart-law, sound-law     the tests, over the pairs k < i, and what the invariants say of any two
 --     invariants-sound     so what every call keeps is sound
 -- Assumes nothing.
@@ -13,8 +12,8 @@ use lib.ListN.{List·getD-eq-default}
 use borrow.Author.Tests.{ltb-true, ltb-false, eqb-true, eq-eqb}
 use Rattle.masks.specs.Fields.{every}
 use Rattle.masks.proofs.Bits.{every-at}
-use Rattle.descriptors.specs.Descriptor.{enabled, Clash, clashes, collides}
-use Rattle.descriptors.proofs.Clash.{clash-law}
+use Rattle.descriptors.specs.Descriptor.{enabled, clashes, collides}
+use Rattle.descriptors.proofs.Clash.{clash-either-way}
 use Rattle.registers.specs.Unit.{local, byte, ac}
 use Rattle.chip.specs.System.{present, unit, descriptor}
 use Rattle.chip.specs.Clean.{Clean}
@@ -85,10 +84,6 @@ module _ (s : System) where
       )
 
 -- ---- the enabled descriptors
-pub clash-turned : (d e : Descriptor) → clashes d e ≡ true → clashes e d ≡ true
-unfolding Clash
-clash-turned d e c = let k = clash-law d e .0 c in clash-law e d .1 (k .0, k .1, k .2, k .3, k .5, k .4)
-
 never-all : (a b c : Bool) → (not (a && (b && c)) ≡ true) ↔ (a ≡ true → b ≡ true → c ≡ true → ⊥)
 never-all true true true = (λ e p q r. false≢true e, λ h. absurd (h refl refl refl))
 never-all true true false = (λ e p q r. false≢true r, λ h. refl)
@@ -104,7 +99,7 @@ apart-law s =
       λ e.
           any-two (λ i j. i < 32 * present s → j < 32 * present s → enabled (d i) ≡ true → enabled (d j) ≡ true → clashes (d i) (d j) ≡ true → i ≡ j)
           (λ i hi hj ei ej c. refl)
-          (λ i j h hj hi ej ei c. sym (h hi hj ei ej (clash-turned (d j) (d i) c)))
+          (λ i j h hj hi ej ei c. sym (h hi hj ei ej (clash-either-way (d j) (d i) c)))
           (λ i k l hi hk ei ek c. absurd (test i k .0 (all .0 e i k hi l) ei ek c)),
       λ a. all .1 (λ i k hi l. test i k .1 (λ ei ek c. let e = a i k hi (omega arith) ei ek c in omega arith)),
     )

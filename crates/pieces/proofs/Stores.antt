@@ -1,10 +1,10 @@
 -- A store into a list, a list of one thing, and a list by its elements.
 --     stored         what holds of each element holds after a store of something of which it holds
 --     everywhere     a list of one thing has it everywhere, if it is what stands past the end too
---     listed, taken-listed, at-listed, listed-alike      a list, or its first n, is that of its elements; what stands in it
+--     listed-as, taken-listed, at-listed, length-listed, listed-alike      a list, or its first n, is that of its elements; what stands in it
 -- Assumes nothing.
 use Prim.Native.Nat.{ℕ, zero, suc, _<_, _≤_}
-use mathlib.Core.Path.{_≡_, refl, ap, ap₂}
+use mathlib.Core.Path.{_≡_, refl, ap, ap₂, subst}
 use mathlib.Core.List.{List, [], _∷_}
 use native.Mathlib.Nat.{le-of-suc-le-suc, not-suc-le-zero}
 use native.Mathlib.Omega.{arith}
@@ -30,9 +30,12 @@ module _ {A : Type 0} (d : A) where
   taken-listed (suc n) [] h = absurd (not-suc-le-zero h)
   taken-listed (suc n) (x ∷ l) h = ap (λ (r : List A). x ∷ r) (taken-listed n l (le-of-suc-le-suc h))
 
-  pub listed : (l : List A) → list-of (length l) (λ i. getD l i d) ≡ l
+  listed : (l : List A) → list-of (length l) (λ i. getD l i d) ≡ l
   listed [] = refl
   listed (x ∷ l) = ap (λ (r : List A). x ∷ r) (listed l)
+
+  pub listed-as : (n : ℕ) (l : List A) → length l ≡ n → list-of n (λ i. getD l i d) ≡ l
+  listed-as n l e = subst (λ (n : ℕ). list-of n (λ i. getD l i d) ≡ l) e (listed l)
 
   pub at-listed : (n : ℕ) (f : ℕ → A) (i : ℕ) → i < n → getD (list-of n f) i d ≡ f i
   at-listed zero f i h = absurd (not-suc-le-zero h)

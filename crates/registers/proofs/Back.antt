@@ -1,13 +1,18 @@
 -- What is written of a register is read again.
 --     held-l, held-rw     L and RW, from what a unit holds of its LSR
 --     gsr-back            the GSR
+--     accumulator-back    the nine bytes with their marks
 -- Assumes nothing.
 use Prim.Native.Nat.{_+_, _*_, _/_, _%_, _^_, _<_}
-use mathlib.Core.Path.{_≡_, refl}
+use mathlib.Core.Path.{_≡_, refl, _∙_}
 use mathlib.Core.Bool.{Bool, true, false}
 use native.Mathlib.Omega.{arith}
+use lib.ListN.{length, getD}
 use Rattle.masks.specs.Fields.{bit}
-use Rattle.registers.specs.Unit.{RW, l-of, rw-of, flag, held-lsr}
+use Rattle.masks.proofs.Bits.{bit-field}
+use Rattle.pieces.specs.Pieces.{list-of}
+use Rattle.pieces.proofs.Stores.{listed-as, at-listed, listed-alike}
+use Rattle.registers.specs.Unit.{RW, l-of, rw-of, local, byte, ac, marks, marked, accumulator-of, flag, held-lsr}
 use Rattle.registers.specs.Shared.{gsr-of, gsr-byte}
 use Rattle.registers.specs.declared.unit.Unit.{Unit}
 use Rattle.registers.specs.declared.shared.Gsr.{Gsr}
@@ -37,3 +42,10 @@ gsr-back g = go (g .f) (g .df) (g .ie)
     go false true false = refl
     go false false true = refl
     go false false false = refl
+
+pub accumulator-back : (u : Unit) → length (u .accumulator) ≡ 9 → accumulator-of (list-of 9 (ac u)) (marks u) ≡ u .accumulator
+unfolding accumulator-of marks
+accumulator-back u e =
+    listed-alike 9 (λ i. marked (getD (list-of 9 (ac u)) i 0) (marks u) i) (byte u)
+    (λ i h. rw (at-listed 0 9 (ac u) i h, bit-field 9 (λ i. byte u i .global) i h))
+    ∙ listed-as (local 0) 9 (u .accumulator) e

@@ -13,12 +13,10 @@ use Rattle.chip.specs.Answer.{first-of}
 use Rattle.image.specs.Image.{blocks, from-block, block-refusals}
 use Rattle.image.specs.Block.{words, adds-up}
 use Rattle.image.specs.Rules.{own, counted}
-use Rattle.image.proofs.Refused.{Proper, one-more, stopped}
+use Rattle.image.proofs.Refused.{one-more, stopped}
+use Rattle.image.proofs.Accepted.{proper}
 use Rattle.image.proofs.read.examined.Statement.{statement}
 use Rattle.image.proofs.read.examined.Tie as tie
-
-proper : (image : List ℕ) (m : ℕ) → Proper (block-refusals image m)
-proper image m = (λ e. omega arith, (λ e. omega arith, tt))
 
 -- the rows of block m, by its check and its fields
 module _ (image : List ℕ) (m : ℕ) where

@@ -7,7 +7,7 @@ use Prim.Native.Nat.{ℕ, _%_}
 use lib.ListN.{length, drop, getD, length-set}
 use lib.Seq.{sets-eq}
 use Rattle.pieces.specs.Pieces.{list-of}
-use Rattle.pieces.proofs.Stores.{listed}
+use Rattle.pieces.proofs.Stores.{listed-as}
 use Rattle.image.proofs.write.put_head.Statement.{statement}
 use Rattle.image.proofs.write.put_head.Tie as tie
 
@@ -18,7 +18,7 @@ returns c =
     let h = start .args .shared in
     let size : length (h .table) ≡ 16 = search needs in
     let table : List ℕ = list-of 16 (λ i. getD (h .table) i 0) in
-    let all : table ≡ h .table = rw size at (listed 0 (h .table)) in
+    let all : table ≡ h .table = listed-as 0 16 (h .table) size in
     sets-eq (start .args .m ∷ h .board .count % 256 ∷ table) b 0 (omega arith)
     ∙ ap (λ (t : List ℕ). start .args .m ∷ h .board .count % 256 ∷ t ++ drop 18 b) all
 
