@@ -23,6 +23,7 @@ use Rattle.chip.specs.declared.reset.Selected.the-variants as selected
 use Rattle.pieces.proofs.Stores.{everywhere}
 use Rattle.chip.proofs.Once.{Apart}
 use Rattle.chip.proofs.Parts.{descriptor-there, descriptor-elsewhere}
+use Rattle.chip.proofs.Counts.{well-counted}
 use Rattle.chip.proofs.Steps.{Clear, Steps, stays, renewed, units, turned, global, one-unit, shared, status, loaded, steps-clean}
 
 -- ---- a descriptor replaced by one that clashes with no other
@@ -88,7 +89,7 @@ fresh-apart board (selected.Unit m) few h =
 pub steps-apart : {s t : System} → Steps s t → Clean s → Apart s → Apart t
 unfolding Apart with-units with-shared with-descriptor
 steps-apart stays c a = a
-steps-apart (renewed board selected few h) c a = fresh-apart board selected few h
+steps-apart (renewed board selected good h) c a = fresh-apart board selected (well-counted _ good) h
 steps-apart (units f e k) c a = steps-apart k c a
 steps-apart (turned reads f e k) c a = steps-apart k c a
 steps-apart (global i value h k) c a = steps-apart k c a

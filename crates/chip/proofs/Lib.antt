@@ -9,6 +9,7 @@ pub mod Clean
 pub mod Steps
 pub mod Apart
 pub mod Marked
+pub mod Counted
 pub mod Turned
 pub mod Invariants
 pub mod Still

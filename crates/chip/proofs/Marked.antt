@@ -76,7 +76,7 @@ fresh-agreed board = elim [ selected.Nobody ↦ cleared | selected.Unit m ↦ cl
 pub steps-agreed : {s t : System} → Steps s t → Agreed s → Agreed t
 unfolding Agreed with-shared with-descriptor
 steps-agreed stays a = a
-steps-agreed (renewed board selected few h) a = fresh-agreed board selected
+steps-agreed (renewed board selected good h) a = fresh-agreed board selected
 steps-agreed (units {t} f e k) a = units-agreed t f (λ m u. becomes-fewer (e m u)) (steps-agreed k a)
 steps-agreed (turned {t} reads f e k) a = units-agreed t _ (λ m u. becomes-fewer (e u)) (steps-agreed k a)
 steps-agreed (global {t} i value h k) a = global-agreed t i value (steps-agreed k a)

@@ -51,7 +51,7 @@ fresh-turned board = elim [ selected.Nobody ↦ cleared | selected.Unit m ↦ cl
 pub steps-turned : {s t : System} → Steps s t → Clean s → Turned s → Turned t
 unfolding Turned with-units with-shared with-descriptor
 steps-turned stays c a = a
-steps-turned (renewed board selected few h) c a = fresh-turned board selected
+steps-turned (renewed board selected good h) c a = fresh-turned board selected
 steps-turned (units {t} f e k) c a = units-turned t (steps-clean k c .places .0) f (λ m u. becomes-rw (e m u)) (steps-turned k c a)
 steps-turned (turned {t} reads f e k) c a = all-turned t (steps-clean k c .places .0) reads f (λ u. becomes-rw (e u))
 steps-turned (global {t} i value h k) c a = units-turned t (steps-clean k c .places .0) _ (λ m u. refl) (steps-turned k c a)

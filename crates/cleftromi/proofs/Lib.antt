@@ -1,3 +1,4 @@
 pub mod Directions
 pub mod Fields
 pub mod Blocks
+pub mod Images

@@ -7,4 +7,5 @@ pub mod Stated
 pub mod Loads
 pub mod Neighbours
 pub mod Cycles
+pub mod Images
 pub mod Bench

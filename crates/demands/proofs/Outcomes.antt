@@ -51,7 +51,7 @@ outcomes = record {
   Descriptor-matches = λ κs a x y v w p q. (same p q, refl);
   Descriptor-physical-page = λ κs a x y v w p q. (same p q, refl);
   Descriptor-bytes = λ κs a x y v w p q. (same p q, refl);
-  Descriptor-clashes = λ κs a x y v w p q. (same p q, refl);
+  Descriptor-collides = λ κs a x y v w p q. (same p q, refl);
   status-clean = λ κs a x y v w p q. (same p q, refl);
   status-used = λ κs a x y v w p q. (same p q, refl);
   status-modified = λ κs a x y v w p q. (same p q, refl);
@@ -68,6 +68,7 @@ outcomes = record {
   unit-rdp-of = λ κs a x y v w p q. (same p q, refl);
   unit-l-of = λ κs a x y v w p q. (same p q, refl);
   unit-rw-of = λ κs a x y v w p q. (same p q, refl);
+  unit-accumulator-of = λ κs a x y v w p q. (same p q, refl);
   Unit-report = λ κs a x y v w p q. (same p q, refl);
   Unit-latch = λ κs a x y v w p q. (same p q, refl);
   Unit-take = λ κs a x y v w p q. (same p q, refl);
@@ -82,17 +83,25 @@ outcomes = record {
   Unit-segment = λ κs a x y v w p q. (same p q, refl);
   -- chip
   Answer-values = λ κs a x y v w p q. (same p q, refl);
+  answer-miscounted = λ κs a x y v w p q. (same p q, refl);
+  System-granted = λ κs a x y v w p q. (same p q, refl);
   System-perform = λ κs a x y v w p q. (same p q, refl);
   System-nothing = λ κs a x y v w p q. (same p q, refl);
+  System-present = λ κs a x y v w p q. (same p q, refl);
   -- block
   block-read = λ κs a x y v w p q. (same p q, refl);
   block-write = λ κs a x y v w p q. (refl, lent p q refl);
+  -- image
+  read-restore = λ κs a x y v w p q. (same p q, refl);
+  write-save = λ κs a x y v w p q. (same (p .0) (q .0), lent (p .1) (q .1) refl);
   -- cleftromi
   cleftromi-start = λ κs a x y v w p q. (same (p .0) (q .0), lent (p .1) (q .1) refl);
   cleftromi-reset = λ κs a x y v w p q. (same (p .0) (q .0), lent (p .1) (q .1) refl);
   cleftromi-access = λ κs a x y v w p q. (same (p .0) (q .0), lent (p .1) (q .1) refl);
   cleftromi-register = λ κs a x y v w p q. (same (p .0) (q .0), lent (p .1) (q .1) refl);
   cleftromi-acknowledge = λ κs a x y v w p q. (same (p .0) (q .0), lent (p .1) (q .1) refl);
+  cleftromi-save = λ κs a x y v w p q. (same (p .0) (q .0), lent (p .1 .0) (q .1 .0) (lent (p .1 .1) (q .1 .1) refl));
+  cleftromi-restore = λ κs a x y v w p q. (same (p .0) (q .0), lent (p .1) (q .1) refl);
   -- lines
   turn-answer = λ κs a x y v w p q. (same p q, refl);
   -- end

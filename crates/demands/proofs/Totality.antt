@@ -1,4 +1,4 @@
--- The checker's theorems of the five; that their promises can be kept; and a block that is reached. Assumes nothing.
+-- The checker's theorems of the functions for C; that their promises can be kept; and a block that is reached. Assumes nothing.
 use Prim.Native.Nat.{ℕ}
 use mathlib.Core.Path.{_≡_, refl, _∙_}
 use mathlib.Core.List.{List, []}
@@ -9,6 +9,8 @@ use Rattle.cleftromi.proofs.cleftromi_reset as cleftromi-reset
 use Rattle.cleftromi.proofs.cleftromi_access as cleftromi-access
 use Rattle.cleftromi.proofs.cleftromi_register as cleftromi-register
 use Rattle.cleftromi.proofs.cleftromi_acknowledge as cleftromi-acknowledge
+use Rattle.cleftromi.proofs.cleftromi_save as cleftromi-save
+use Rattle.cleftromi.proofs.cleftromi_restore as cleftromi-restore
 use Rattle.chip.specs.declared.call.Call.the-variants as call
 use Rattle.chip.specs.declared.reset.Selected.the-variants as selected
 use Rattle.cleftromi.specs.Interface.{answer, after}
@@ -24,6 +26,8 @@ totality = record {
   access = λ M. cleftromi-access.Met.met;
   register = λ M. cleftromi-register.Met.met;
   acknowledge = λ M. cleftromi-acknowledge.Met.met;
+  save = λ M. cleftromi-save.Met.met;
+  restore = λ M. cleftromi-restore.Met.met;
 }
 
 -- a start of one unit on 4,096 zeros
@@ -49,5 +53,7 @@ not-empty = record {
   access = λ κs a. (_, (_, (tt, (tt, (tt, tt)))), (refl, refl));
   register = λ κs a. (_, (_, (tt, (tt, (tt, (tt, tt))))), (refl, refl));
   acknowledge = λ κs a. (_, (_, (tt, tt)), (refl, refl));
+  save = λ κs a. (_, (_, (_, tt)), (refl, (refl, refl)));
+  restore = λ κs a. (_, (_, (tt, tt)), (refl, refl));
   reached = (_, histories.started begun (demand-1 .refused (histories.start begun) .exactly ∙ rw as-long));
 }

@@ -1,4 +1,4 @@
--- The demands, each under the user's words. What is claimed is claimed of anything that keeps the promises of the five functions.
+-- The demands, each under the user's words. What is claimed is claimed of anything that keeps the promises of the functions for C.
 use Prim.Native.Nat.{ℕ, _*_, _/_, _^_, _<_}
 use mathlib.Core.Path.{_≡_}
 use mathlib.Core.Logic.{_≢_, _↔_}
@@ -22,10 +22,10 @@ use Rattle.chip.specs.declared.answer.Outcome.{Outcome}
 use Rattle.chip.specs.declared.call.Call.{Call}
 use Rattle.pieces.specs.Pieces.{Bytes}
 use Rattle.block.specs.Layout.{short, read, written}
-use Rattle.cleftromi.specs.Interface.{refusals}
+use Rattle.cleftromi.specs.Interface.{refusals, save-refusals, restore-refusals}
 use Rattle.cleftromi.specs.Fields.{refusal, kind, Fields}
 use Rattle.cleftromi.specs.Fields as field
-use Rattle.demands.specs.Histories.{Step, Access, Register, Asks, Reached}
+use Rattle.demands.specs.Histories.{Step, Access, Register, Save, Restore, Asks, Reached}
 
 -- how many places a block has
 abbrev pub places : (block : List ℕ) → ℕ
@@ -43,6 +43,11 @@ pub record Refused-by (rows : List (ℕ × Bool)) (before : List ℕ) (answer : 
 -- the call."
 pub record Demand-1 : Type 0 where
   pub refused : {c : Call} {answer : ℕ} {b after : List ℕ} → Asks c b answer after → Refused-by (refusals c b) b answer after
+  -- a save and a restore likewise, and a refused save leaves every byte of the image too
+  pub save-refused : {image saved : List ℕ} {answer : ℕ} {b after : List ℕ} → Save image saved b answer after
+      → Refused-by (save-refusals b image) b answer after × (refusal answer ≢ 0 → saved ≡ image)
+  pub restore-refused : {image : List ℕ} {answer : ℕ} {b after : List ℕ} → Restore image b answer after
+      → Refused-by (restore-refusals b image) b answer after
 
 -- ---- Demand 2
 
@@ -70,12 +75,16 @@ Load unit value = Register unit 0x3F 0 value
 abbrev pub above-irq : (answer : ℕ) → ℕ
 above-irq answer = answer / 2 ^ field.WIN
 
+-- no two enabled descriptors in any units match the same logical address and address space number
+abbrev pub One-match : (block : List ℕ) → Type 0
+One-match b =
+    (page number i j : ℕ) → page < 2 ^ 16 → number < 2 ^ 8 → i < places b → j < places b
+    → matches (descriptor (read b) i) page number ≡ true → matches (descriptor (read b) j) page number ≡ true → i ≡ j
+
 pub record Demand-3 : Type 0 where
   -- "From a granted start or reset on, after any calls, as long as nothing else writes the state, no two enabled descriptors
-  -- in any units match the same logical address and address space number."
-  pub one-match : {b : List ℕ} → Reached b → (page number i j : ℕ) → page < 2 ^ 16 → number < 2 ^ 8
-      → i < places b → j < places b
-      → matches (descriptor (read b) i) page number ≡ true → matches (descriptor (read b) j) page number ≡ true → i ≡ j
+  -- in any units match the same logical address and address space number." Since 02, P2: "from a granted start, reset or restore on".
+  pub one-match : {b : List ℕ} → Reached b → One-match b
   -- The other two sentences have no "from a granted start or reset on": they are claimed of every block of bytes.
   -- "A load that asks to be enabled, in a call with no numbered refusal, is refused exactly when some address and number
   -- exist that it and another enabled descriptor would both match."
@@ -97,12 +106,16 @@ pub record Demand-3 : Type 0 where
 
 -- ---- No stale neighbour
 
+-- bytes of the accumulator that are marked in two units are equal
+abbrev pub Same-marked : (block : List ℕ) → Type 0
+Same-marked b =
+    (i m k : ℕ) → m < present (read b) → k < present (read b)
+    → byte (unit (read b) m) i .global ≡ true → byte (unit (read b) k) i .global ≡ true
+    → ac (unit (read b) m) i ≡ ac (unit (read b) k) i
+
 -- "a status register that is right in one unit and stale in its neighbour"
 pub record Sound (b : List ℕ) : Type 0 where
-  -- bytes that are marked in two units are equal
-  pub marked : (i m k : ℕ) → m < present (read b) → k < present (read b)
-      → byte (unit (read b) m) i .global ≡ true → byte (unit (read b) k) i .global ≡ true
-      → ac (unit (read b) m) i ≡ ac (unit (read b) k) i
+  pub marked : Same-marked b
   -- IP only with E
   pub pending : (i : ℕ) → i < places b → pending (descriptor (read b) i) ≡ true → enabled (descriptor (read b) i) ≡ true
   -- every register within its bits, and no other bit set in the block

@@ -32,7 +32,7 @@ use Rattle.descriptors.proofs.descriptor.Descriptor.with_ssr as Descriptor-with
 use Rattle.descriptors.proofs.descriptor.Descriptor.matches as Descriptor-matches
 use Rattle.descriptors.proofs.descriptor.Descriptor.physical_page as Descriptor-physical-page
 use Rattle.descriptors.proofs.descriptor.Descriptor.bytes as Descriptor-bytes
-use Rattle.descriptors.proofs.descriptor.Descriptor.clashes as Descriptor-clashes
+use Rattle.descriptors.proofs.descriptor.Descriptor.collides as Descriptor-collides
 use Rattle.descriptors.proofs.status.clean as status-clean
 use Rattle.descriptors.proofs.status.used as status-used
 use Rattle.descriptors.proofs.status.modified as status-modified
@@ -49,6 +49,7 @@ use Rattle.registers.proofs.shared.Shared.with_ivr as Shared-with-ivr
 use Rattle.registers.proofs.unit.rdp_of as unit-rdp-of
 use Rattle.registers.proofs.unit.l_of as unit-l-of
 use Rattle.registers.proofs.unit.rw_of as unit-rw-of
+use Rattle.registers.proofs.unit.accumulator_of as unit-accumulator-of
 use Rattle.registers.proofs.unit.Unit.report as Unit-report
 use Rattle.registers.proofs.unit.Unit.latch as Unit-latch
 use Rattle.registers.proofs.unit.Unit.take as Unit-take
@@ -63,17 +64,25 @@ use Rattle.registers.proofs.unit.Unit.page as Unit-page
 use Rattle.registers.proofs.unit.Unit.segment as Unit-segment
 -- chip
 use Rattle.chip.proofs.answer.Answer.values as Answer-values
+use Rattle.chip.proofs.answer.miscounted as answer-miscounted
+use Rattle.chip.proofs.system.System.granted as System-granted
 use Rattle.chip.proofs.system.System.perform as System-perform
 use Rattle.chip.proofs.system.System.nothing as System-nothing
+use Rattle.chip.proofs.system.System.present as System-present
 -- block
 use Rattle.block.proofs.read.read as block-read
 use Rattle.block.proofs.write.write as block-write
+-- image
+use Rattle.image.proofs.read.restore as read-restore
+use Rattle.image.proofs.write.save as write-save
 -- cleftromi
 use Rattle.cleftromi.proofs.cleftromi_start as cleftromi-start
 use Rattle.cleftromi.proofs.cleftromi_reset as cleftromi-reset
 use Rattle.cleftromi.proofs.cleftromi_access as cleftromi-access
 use Rattle.cleftromi.proofs.cleftromi_register as cleftromi-register
 use Rattle.cleftromi.proofs.cleftromi_acknowledge as cleftromi-acknowledge
+use Rattle.cleftromi.proofs.cleftromi_save as cleftromi-save
+use Rattle.cleftromi.proofs.cleftromi_restore as cleftromi-restore
 -- lines
 use Rattle.lines.proofs.turn.answer as turn-answer
 -- end
@@ -111,7 +120,7 @@ pub record Outcomes : Type 0 where
   pub Descriptor-matches : At-most-one Descriptor-matches.Kinds.ps Descriptor-matches.Kinds.r Descriptor-matches.Reads.Post
   pub Descriptor-physical-page : At-most-one Descriptor-physical-page.Kinds.ps Descriptor-physical-page.Kinds.r Descriptor-physical-page.Reads.Post
   pub Descriptor-bytes : At-most-one Descriptor-bytes.Kinds.ps Descriptor-bytes.Kinds.r Descriptor-bytes.Reads.Post
-  pub Descriptor-clashes : At-most-one Descriptor-clashes.Kinds.ps Descriptor-clashes.Kinds.r Descriptor-clashes.Reads.Post
+  pub Descriptor-collides : At-most-one Descriptor-collides.Kinds.ps Descriptor-collides.Kinds.r Descriptor-collides.Reads.Post
   pub status-clean : At-most-one status-clean.Kinds.ps status-clean.Kinds.r status-clean.Reads.Post
   pub status-used : At-most-one status-used.Kinds.ps status-used.Kinds.r status-used.Reads.Post
   pub status-modified : At-most-one status-modified.Kinds.ps status-modified.Kinds.r status-modified.Reads.Post
@@ -128,6 +137,7 @@ pub record Outcomes : Type 0 where
   pub unit-rdp-of : At-most-one unit-rdp-of.Kinds.ps unit-rdp-of.Kinds.r unit-rdp-of.Reads.Post
   pub unit-l-of : At-most-one unit-l-of.Kinds.ps unit-l-of.Kinds.r unit-l-of.Reads.Post
   pub unit-rw-of : At-most-one unit-rw-of.Kinds.ps unit-rw-of.Kinds.r unit-rw-of.Reads.Post
+  pub unit-accumulator-of : At-most-one unit-accumulator-of.Kinds.ps unit-accumulator-of.Kinds.r unit-accumulator-of.Reads.Post
   pub Unit-report : At-most-one Unit-report.Kinds.ps Unit-report.Kinds.r Unit-report.Reads.Post
   pub Unit-latch : At-most-one Unit-latch.Kinds.ps Unit-latch.Kinds.r Unit-latch.Reads.Post
   pub Unit-take : At-most-one Unit-take.Kinds.ps Unit-take.Kinds.r Unit-take.Reads.Post
@@ -142,17 +152,25 @@ pub record Outcomes : Type 0 where
   pub Unit-segment : At-most-one Unit-segment.Kinds.ps Unit-segment.Kinds.r Unit-segment.Reads.Post
   -- chip
   pub Answer-values : At-most-one Answer-values.Kinds.ps Answer-values.Kinds.r Answer-values.Reads.Post
+  pub answer-miscounted : At-most-one answer-miscounted.Kinds.ps answer-miscounted.Kinds.r answer-miscounted.Reads.Post
+  pub System-granted : At-most-one System-granted.Kinds.ps System-granted.Kinds.r System-granted.Reads.Post
   pub System-perform : At-most-one System-perform.Kinds.ps System-perform.Kinds.r System-perform.Reads.Post
   pub System-nothing : At-most-one System-nothing.Kinds.ps System-nothing.Kinds.r System-nothing.Reads.Post
+  pub System-present : At-most-one System-present.Kinds.ps System-present.Kinds.r System-present.Reads.Post
   -- block
   pub block-read : At-most-one block-read.Kinds.ps block-read.Kinds.r block-read.Reads.Post
   pub block-write : At-most-one block-write.Kinds.ps block-write.Kinds.r block-write.Reads.Post
+  -- image
+  pub read-restore : At-most-one read-restore.Kinds.ps read-restore.Kinds.r read-restore.Reads.Post
+  pub write-save : At-most-one write-save.Kinds.ps write-save.Kinds.r write-save.Reads.Post
   -- cleftromi
   pub cleftromi-start : At-most-one cleftromi-start.Kinds.ps cleftromi-start.Kinds.r cleftromi-start.Reads.Post
   pub cleftromi-reset : At-most-one cleftromi-reset.Kinds.ps cleftromi-reset.Kinds.r cleftromi-reset.Reads.Post
   pub cleftromi-access : At-most-one cleftromi-access.Kinds.ps cleftromi-access.Kinds.r cleftromi-access.Reads.Post
   pub cleftromi-register : At-most-one cleftromi-register.Kinds.ps cleftromi-register.Kinds.r cleftromi-register.Reads.Post
   pub cleftromi-acknowledge : At-most-one cleftromi-acknowledge.Kinds.ps cleftromi-acknowledge.Kinds.r cleftromi-acknowledge.Reads.Post
+  pub cleftromi-save : At-most-one cleftromi-save.Kinds.ps cleftromi-save.Kinds.r cleftromi-save.Reads.Post
+  pub cleftromi-restore : At-most-one cleftromi-restore.Kinds.ps cleftromi-restore.Kinds.r cleftromi-restore.Reads.Post
   -- lines
   pub turn-answer : At-most-one turn-answer.Kinds.ps turn-answer.Kinds.r turn-answer.Reads.Post
   -- end

@@ -1,17 +1,23 @@
 -- What document 02 asks for beyond the demands, request by request, under its words. It is claimed of anything that keeps the promises.
 use Prim.Native.Nat.{ℕ, _+_, _*_}
 use mathlib.Core.Path.{_≡_}
-use mathlib.Core.Logic.{_≢_}
+use mathlib.Core.Logic.{_≢_, _↔_}
 use mathlib.Core.Bool.{true, false}
 use mathlib.Core.List.{List}
-use Rattle.chip.specs.Answer.{mapped, violating, undefined}
+use lib.ListN.{length}
+use Rattle.masks.specs.Fields.{every}
+use Rattle.chip.specs.Answer.{mapped, violating, undefined, granted, first-of, miscounted}
+use Rattle.chip.specs.declared.answer.Answer.the-variants.{Done}
 use Rattle.chip.specs.Segment.{sets, Accessed}
 use Rattle.pieces.specs.Pieces.{Bytes}
-use Rattle.block.specs.Layout.{read}
+use Rattle.block.specs.Layout.{short, read}
+use Rattle.image.specs.Block.{size, adds-up}
+use Rattle.image.specs.Image.{form, blocks, from-block, system-of, could-satisfy-01, misfit, refusals}
 use Rattle.cleftromi.specs.Interface.{cycle-by}
-use Rattle.cleftromi.specs.Fields.{kind}
+use Rattle.cleftromi.specs.Fields.{refusal, kind}
 use Rattle.cleftromi.specs.Fields as field
-use Rattle.demands.specs.Histories.{Access, Register}
+use Rattle.demands.specs.Histories.{Access, Register, Save, Restore, Reached}
+use Rattle.demands.specs.Demands.{As-stated, One-match, Same-marked}
 
 -- the place of the descriptor that an answer names
 abbrev pub place : (answer : ℕ) → ℕ
@@ -46,3 +52,43 @@ pub record Read-modify-write : Type 0 where
   pub registers-write : {unit address direction value answer write-answer : ℕ} {b after write-after : List ℕ} → direction ≢ 0
       → Register unit address direction value b answer after → Register unit address 1 value b write-answer write-after
       → (answer ≡ write-answer) × (after ≡ write-after)
+
+-- ---- P2. "End of shift image"
+
+-- the count of units in a block, and an image of its length
+abbrev pub units-in : (block : List ℕ) → ℕ
+units-in b = read b .shared .board .count
+
+abbrev pub As-long : (block image : List ℕ) → Type 0
+As-long b image = (miscounted (units-in b) ≡ false) × (length image ≡ size * units-in b)
+
+pub record End-of-shift-image : Type 0 where
+  -- A granted save is done, with IRQ as it stands, leaves the state as it was, and the image is the state's; a granted restore is
+  -- done, and leaves the state that the image holds.
+  pub saves : {image saved : List ℕ} {answer : ℕ} {b after : List ℕ} → Bytes b → Save image saved b answer after → refusal answer ≡ 0
+      → As-stated (granted Done (read b)) answer after × (saved ≡ form (read b))
+  pub restores : {image : List ℕ} {answer : ℕ} {b after : List ℕ} → Restore image b answer after → refusal answer ≡ 0
+      → As-stated (granted Done (system-of image)) answer after
+  -- "For a state that meets 01, writing then reading gives the state": such a state is saved, and whatever was saved is restored
+  pub meets-saved : {image saved : List ℕ} {answer : ℕ} {b after : List ℕ} → Bytes b → short b ≡ false → One-match b → Same-marked b
+      → As-long b image → Save image saved b answer after → refusal answer ≡ 0
+  pub saved-restored : {image saved : List ℕ} {answer answer′ : ℕ} {b after c after′ : List ℕ} → Bytes b
+      → Save image saved b answer after → refusal answer ≡ 0 → short c ≡ false → Restore saved c answer′ after′
+      → (refusal answer′ ≡ 0) × (read after′ ≡ read b)
+  -- "reading an accepted image, then writing, gives the bytes"
+  pub restored-saved : {image other saved : List ℕ} {answer answer′ : ℕ} {b after after′ : List ℕ}
+      → Restore image b answer after → refusal answer ≡ 0 → length other ≡ length image → Save other saved after answer′ after′
+      → (refusal answer′ ≡ 0) × (saved ≡ image)
+  -- "Read back only what could satisfy 01": accepted exactly when the length fits, each block adds up, and the rules hold. In which
+  -- order they decide is in `restore-refusals` (demand 1); that the state then meets 01 is demand 3, and `sound`.
+  pub accepted-exactly : {image : List ℕ} {answer : ℕ} {b after : List ℕ} → short b ≡ false → Restore image b answer after
+      → (refusal answer ≡ 0)
+      ↔ ((misfit (length image) ≡ false) × (every (blocks image) (λ m. adds-up (from-block m image)) ≡ true) × (could-satisfy-01 image ≡ true))
+  -- "writing a state that couldn't be read back is 10": exactly where its image would be refused, and by the same number
+  pub refused-alike : {image saved : List ℕ} {answer : ℕ} {b after : List ℕ} → Bytes b → short b ≡ false → As-long b image
+      → Save image saved b answer after → refusal answer ≡ first-of (refusals (form (read b)))
+  -- So a state that a history reaches is saved, and the block stays; and the restore of what was saved leaves the block as it was.
+  pub reached-saved : {image saved : List ℕ} {answer : ℕ} {b after : List ℕ} → Reached b → length image ≡ size * units-in b
+      → Save image saved b answer after → (refusal answer ≡ 0) × (after ≡ b)
+  pub reached-restored : {image saved : List ℕ} {answer answer′ : ℕ} {b after after′ : List ℕ} → Reached b
+      → Save image saved b answer after → refusal answer ≡ 0 → Restore saved b answer′ after′ → (refusal answer′ ≡ 0) × (after′ ≡ b)

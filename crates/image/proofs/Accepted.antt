@@ -28,6 +28,7 @@ either true b e = absurd (true≢false e)
 either false b e = (refl, e)
 
 pub record Well-sized (bytes : ℕ) : Type 0 where
+  pub counted : miscounted (bytes / size) ≡ false
   pub some : 1 ≤ bytes / size
   pub few : bytes / size ≤ 6
   pub whole : bytes ≡ size * (bytes / size)
@@ -37,7 +38,7 @@ well-sized bytes e =
     let both = either (not (eqb (bytes % size) 0)) (miscounted (bytes / size)) e in
     let whole : bytes % size ≡ 0 = eqb-true (bytes % size) 0 (not-false _ (both .0)) in
     let none : bytes / size ≢ 0 = eqb-false _ _ (either (eqb (bytes / size) 0) (ltb 6 (bytes / size)) (both .1) .0) in
-    record { some = omega arith; few = well-counted _ (both .1); whole = omega arith }
+    record { counted = both .1; some = omega arith; few = well-counted _ (both .1); whole = omega arith }
 
 module _ (image : List ℕ) where
   pub proper : (m : ℕ) → Proper (block-refusals image m)

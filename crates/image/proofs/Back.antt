@@ -1,7 +1,8 @@
 -- What is read from an accepted image is a system as every call keeps it, and is written again to the same bytes.
 --     accepted-clean          the system is in clean form
 --     accepted-back           its written form is the image
---     accepted-invariants     its enabled descriptors are apart, and its marked bytes agree
+--     accepted-length         its length is that of the system's image
+--     accepted-invariants     it has one to six units, its enabled descriptors are apart, and its marked bytes agree
 -- Assumes nothing.
 use Prim.Native.Nat.{ℕ, _+_, _*_, _/_, _%_, _<_, _≤_}
 use mathlib.Core.Path.{_≡_, sym, _∙_}
@@ -125,6 +126,13 @@ module _ (image : List ℕ) (h : Bytes image) (e : refusal image ≡ 0) where
   accepted-back = form-back image h (accepted image e)
 
   pub accepted-invariants : Invariants (system-of image)
+  unfolding system-of shared-of
   accepted-invariants =
-      let both = sound-law (system-of image) accepted-clean .0 (accepted image e .sounds) in
-      record { clean = accepted-clean; apart = both .1; agreed = both .0 }
+      let a = accepted image e in
+      let both = sound-law (system-of image) accepted-clean .0 (a .sounds) in
+      record { clean = accepted-clean; counted = rw (first-count image h a) (a .sized .counted); apart = both .1; agreed = both .0 }
+
+  -- its length is that of the system's image
+  pub accepted-length : length image ≡ size * system-of image .shared .board .count
+  unfolding system-of shared-of
+  accepted-length = let a = accepted image e in rw (first-count image h a) (a .sized .whole)
