@@ -5,7 +5,7 @@ ghost use Rattle.cleftromi.specs.Interface.{selected-by, cycle-by, opera
 ghost use Rattle.cleftromi.specs.Interface.{save-answer, save-after, save-image, restore-answer, restore-after};
 ghost use Rattle.cleftromi.specs.Fields.{number-of};
 ghost use Rattle.chip.specs.Answer.{values};
-ghost use Rattle.block.specs.Layout.{written};
+ghost use Rattle.block.specs.Layout.{short, written};
 use chip::access::Cycle;
 use chip::answer::Answer;
 use chip::answer::Outcome;
@@ -71,12 +71,19 @@ fn number_of(v: Values, irq: bool) -> u64
         + ((v.address % 16777216) as u64) * 4294967296
 }
 
+// Refusal 7.
+fn short(state: &[u8]) -> bool
+    ensures { λ r. ⌜ r ≡ short (now (state .entry)) ⌝ }
+{
+    state.len() < block::read::SIZE
+}
+
 // Every call: what the block holds is read, the call made, and what is then to be held is written.
 fn run(state: &mut [u8], call: Call) -> u64
     ensures { λ r. ⌜ r ≡ answer call (now (state .entry)) ⌝ }
     ensures { λ r. ⌜ now (state .exit) ≡ after call (now (state .entry)) ⌝ }
 {
-    if state.len() < block::read::SIZE {
+    if short(state) {
         return SHORT;
     }
     let outcome = block::read::read(state).perform(call);
@@ -176,7 +183,7 @@ pub extern "C" fn cleftromi_save(state: &mut [u8], image: &mut [u8]) -> u64
     ensures { λ r. ⌜ now (state .exit) ≡ save-after (now (state .entry)) (now (image .entry)) ⌝ }
     ensures { λ r. ⌜ now (image .exit) ≡ save-image (now (state .entry)) (now (image .entry)) ⌝ }
 {
-    if state.len() < block::read::SIZE {
+    if short(state) {
         return SHORT;
     }
     let system = block::read::read(state);
@@ -192,7 +199,7 @@ pub extern "C" fn cleftromi_restore(state: &mut [u8], image: &[u8]) -> u64
     ensures { λ r. ⌜ r ≡ restore-answer (now (state .entry)) (now (image .entry)) ⌝ }
     ensures { λ r. ⌜ now (state .exit) ≡ restore-after (now (state .entry)) (now (image .entry)) ⌝ }
 {
-    if state.len() < block::read::SIZE {
+    if short(state) {
         return SHORT;
     }
     let restored = image::read::restore(image);
