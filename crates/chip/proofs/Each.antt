@@ -1,6 +1,7 @@
 -- Laws of `each`: a loop that replaces one element after the other makes it, or fills an array from the front.
 --     each-more, each-at, each-past, length-each, each-related     what is done to each of the first n
 --     filled, filled-is, filled-below, filled-past, length-filled     an array whose first n elements are put in
+--     begun, next, ended      a loop that does so
 -- Assumes nothing.
 use Prim.Native.Nat.{ℕ, zero, suc, _+_, _<_, _≤_}
 use mathlib.Core.Path.{_≡_, refl, sym, ap, _∙_}
@@ -8,6 +9,7 @@ use mathlib.Core.Bool.{Bool, true, false}
 use mathlib.Core.List.{List, [], _∷_}
 use native.Mathlib.Nat.{le-of-suc-le-suc, not-suc-le-zero}
 use native.Mathlib.Numerals.{add-one}
+use native.Mathlib.Omega.{arith}
 use lib.Dec.{ltb}
 use lib.ListN.{length, getD, set, replicate, length-replicate, getD-replicate}
 use lib.Seq.{ext-getD}
@@ -63,6 +65,21 @@ module _ {A : Type 0} where
   pub filled : (d : A) (i : ℕ) (g : ℕ → A) (xs ys : List A) (v : A) → ys ≡ each i (λ k x. g k) xs → v ≡ g i
       → set ys i v ≡ each (i + 1) (λ k x. g k) xs
   filled d i g xs ys v p q = rw (p, q) (each-more d i (λ k x. g k) xs)
+
+  -- so far i of n are put in
+  abbrev pub Filling : (n : ℕ) (g : ℕ → A) (xs ys : List A) (i : ℕ) → Type 0
+  Filling n g xs ys i = (i ≤ n) × (ys ≡ each i (λ k x. g k) xs)
+
+  pub begun : {n : ℕ} (g : ℕ → A) (xs : List A) → Filling n g xs xs 0
+  unfolding each
+  begun g xs = (omega arith, refl)
+
+  pub next : (d : A) (g : ℕ → A) (xs : List A) {n i : ℕ} {ys : List A} {v : A} → Filling n g xs ys i → i < n → v ≡ g i
+      → Filling n g xs (set ys i v) (i + 1)
+  next d g xs {i = i} {ys = ys} {v = v} f l q = (omega arith, filled d i g xs ys v (f .1) q)
+
+  pub ended : (g : ℕ → A) (xs : List A) {n i : ℕ} {ys : List A} → Filling n g xs ys i → n ≤ i → ys ≡ each n (λ k x. g k) xs
+  ended g xs {n = n} {i = i} f l = let all : i ≡ n = omega arith in f .1 ∙ rw all
 
   -- an array whose first n elements come from g, and the others are z
   pub filled-is : (d : A) (n k : ℕ) (g : ℕ → A) (z : A) (l : List A) → length l ≡ k
