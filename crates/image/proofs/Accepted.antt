@@ -20,7 +20,7 @@ use Rattle.chip.specs.Answer.{first-of, miscounted}
 use Rattle.chip.proofs.Counts.{well-counted}
 use Rattle.image.specs.Block.{size, count, adds-up}
 use Rattle.image.specs.Rules.{own, counted, same-shared, sound}
-use Rattle.image.specs.Image.{blocks, from-block, system-of, across, could-satisfy-01, misfit, block-refusals, refusals, refusal}
+use Rattle.image.specs.Image.{blocks, from-block, system-of, across, could-satisfy-01, misfit, refusals-at, refusals, refusal}
 use Rattle.image.proofs.Refused.{Proper, first-past, first-stays, proper-append, proper-pieces, first-fits, none-of-both, past-row, none-of-pieces}
 
 either : (a b : Bool) → a || b ≡ false → (a ≡ false) × (b ≡ false)
@@ -41,7 +41,7 @@ well-sized bytes e =
     record { counted = both .1; some = omega arith; few = well-counted _ (both .1); whole = omega arith }
 
 module _ (image : List ℕ) where
-  pub proper : (m : ℕ) → Proper (block-refusals image m)
+  pub proper : (m : ℕ) → Proper (refusals-at image m)
   proper m = (λ e. omega arith, lit< tt, (λ e. omega arith, lit< tt, tt))
 
   -- a refusal is a byte
@@ -51,23 +51,23 @@ module _ (image : List ℕ) where
       first-fits (refusals image) (
         λ e. omega arith,
         lit< tt,
-        proper-append (pieces (blocks image) (block-refusals image)) _ (proper-pieces (blocks image) (block-refusals image) proper) (λ e. omega arith, lit< tt, tt),
+        proper-append (pieces (blocks image) (refusals-at image)) _ (proper-pieces (blocks image) (refusals-at image) proper) (λ e. omega arith, lit< tt, tt),
       )
 
   pub refusal-length : misfit (length image) ≡ true → refusal image ≡ 8
   unfolding refusals
   refusal-length e = rw e refl
 
-  pub refusal-block : misfit (length image) ≡ false → first-of (pieces (blocks image) (block-refusals image)) ≢ 0
-      → refusal image ≡ first-of (pieces (blocks image) (block-refusals image))
+  pub refusal-block : misfit (length image) ≡ false → first-of (pieces (blocks image) (refusals-at image)) ≢ 0
+      → refusal image ≡ first-of (pieces (blocks image) (refusals-at image))
   unfolding refusals
-  refusal-block e n = rw e (first-stays (pieces (blocks image) (block-refusals image)) _ n)
+  refusal-block e n = rw e (first-stays (pieces (blocks image) (refusals-at image)) _ n)
 
-  pub refusal-across : misfit (length image) ≡ false → first-of (pieces (blocks image) (block-refusals image)) ≡ 0
+  pub refusal-across : misfit (length image) ≡ false → first-of (pieces (blocks image) (refusals-at image)) ≡ 0
       → refusal image ≡ cond (not (across image)) 10 0
   unfolding refusals
   refusal-across e z =
-      rw e (first-past (pieces (blocks image) (block-refusals image)) ((10, not (across image)) ∷ []) (proper-pieces (blocks image) (block-refusals image) proper) z)
+      rw e (first-past (pieces (blocks image) (refusals-at image)) ((10, not (across image)) ∷ []) (proper-pieces (blocks image) (refusals-at image) proper) z)
 
 -- ---- acceptance
 module _ (image : List ℕ) where
@@ -78,7 +78,7 @@ module _ (image : List ℕ) where
   abbrev fields : (m : ℕ) → Bool
   fields m = own m (from-block m image) && counted (blocks image) (from-block m image)
 
-  block-passes : (m : ℕ) → (first-of (block-refusals image m) ≡ 0) ↔ ((check m ≡ true) × (fields m ≡ true))
+  block-passes : (m : ℕ) → (first-of (refusals-at image m) ≡ 0) ↔ ((check m ≡ true) × (fields m ≡ true))
   block-passes m =
       let first = past-row 9 (not (check m)) (cond (not (fields m)) 10 0) (λ e. omega arith) in
       let second = past-row 10 (not (fields m)) 0 (λ e. omega arith) in (
@@ -86,10 +86,10 @@ module _ (image : List ℕ) where
         λ h. first .1 (ap not (h .0), second .1 (ap not (h .1), refl)),
       )
 
-  blocks-pass : (first-of (pieces (blocks image) (block-refusals image)) ≡ 0)
+  blocks-pass : (first-of (pieces (blocks image) (refusals-at image)) ≡ 0)
       ↔ ((every (blocks image) check ≡ true) × (every (blocks image) fields ≡ true))
   blocks-pass =
-      let all = none-of-pieces (block-refusals image) (proper image) (blocks image) in
+      let all = none-of-pieces (refusals-at image) (proper image) (blocks image) in
       let checks = every-at (blocks image) check in
       let fits = every-at (blocks image) fields in (
         λ e. (checks .1 (λ m h. block-passes m .0 (all .0 e m h) .0), fits .1 (λ m h. block-passes m .0 (all .0 e m h) .1)),
@@ -100,10 +100,10 @@ module _ (image : List ℕ) where
       ↔ ((misfit (length image) ≡ false) × (every (blocks image) (λ m. adds-up (from-block m image)) ≡ true) × (could-satisfy-01 image ≡ true))
   unfolding refusals could-satisfy-01
   accepted-exactly =
-      let rows = pieces (blocks image) (block-refusals image) in
+      let rows = pieces (blocks image) (refusals-at image) in
       let last : List (ℕ × Bool) = (10, not (across image)) ∷ [] in
       let fit = past-row 8 (misfit (length image)) (first-of (rows ++ last)) (λ e. omega arith) in
-      let two = none-of-both rows last (proper-pieces (blocks image) (block-refusals image) (proper image)) in
+      let two = none-of-both rows last (proper-pieces (blocks image) (refusals-at image) (proper image)) in
       let end = past-row 10 (not (across image)) 0 (λ e. omega arith) in
       let both = and-eq-true-iff (every (blocks image) fields) (across image) in (
         λ e.

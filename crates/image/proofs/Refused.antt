@@ -96,8 +96,7 @@ module _ (f : ℕ → List (ℕ × Bool)) (proper : (m : ℕ) → Proper (f m)) 
   unfolding pieces
   one-more m e h = rw add-one (first-past (pieces m f) (f m) (proper-pieces m f proper) e ∙ h)
 
-  pub stopped : (n m number : ℕ) → m < n → first-of (pieces m f) ≡ 0 → ((r : List (ℕ × Bool)) → first-of (f m ++ r) ≡ number)
-      → number ≡ first-of (pieces n f)
-  stopped n m number l e h =
+  pub stopped : (n m : ℕ) → m < n → first-of (pieces m f) ≡ 0 → first-of (f m) ≢ 0 → first-of (f m) ≡ first-of (pieces n f)
+  stopped n m l e h =
       let split = pieces-split f n m l in
-      sym (rw (split .1) (first-past (pieces m f) (f m ++ split .0) (proper-pieces m f proper) e ∙ h (split .0)))
+      sym (rw (split .1) (first-past (pieces m f) (f m ++ split .0) (proper-pieces m f proper) e ∙ first-stays (f m) (split .0) h))

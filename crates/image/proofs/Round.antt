@@ -39,7 +39,7 @@ use Rattle.chip.specs.declared.system.System.{System}
 use Rattle.image.specs.Block.{size, number, count, rdp, place, ssr, reserved, words, adds-up, fields, check, block}
 use Rattle.image.specs.Block.{shared-of, unit-of, descriptor-of}
 use Rattle.image.specs.Rules.{clear, registers-clear, nvr-alone, allowed, own, same-shared, sound}
-use Rattle.image.specs.Image.{form, blocks, from-block, system-of, across, misfit, block-refusals, refusal}
+use Rattle.image.specs.Image.{form, blocks, from-block, system-of, across, misfit, refusals-at, refusal}
 use Rattle.image.proofs.Words.{words-front, length-fields, length-block}
 use Rattle.image.proofs.Refused.{none-of-pieces}
 use Rattle.image.proofs.Accepted.{proper, refusal-across}
@@ -243,7 +243,7 @@ module _ (s : System) (c : Clean s) (some : 1 ≤ s .shared .board .count) (few 
         le-ltb 6 (length (form s) / size) (omega arith),
       )
 
-  block-passes : (m : ℕ) → m < present s → first-of (block-refusals (form s) m) ≡ 0
+  block-passes : (m : ℕ) → m < present s → first-of (refusals-at (form s) m) ≡ 0
   block-passes m h =
       let at = stands m h in
       let counted = count-back s table m (at .0) (c .shared .count) in

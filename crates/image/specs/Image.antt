@@ -48,14 +48,15 @@ abbrev pub misfit : (bytes : ℕ) → Bool
 misfit bytes = not (eqb (bytes % size) 0) || miscounted (bytes / size)
 
 -- 9: "a block's check", 10: "its fields"; 9 before 10
-abbrev pub block-refusals : (image : List ℕ) (m : ℕ) → List (ℕ × Bool)
-block-refusals i m =
-    let b = from-block m i in
-    (9, not (adds-up b)) ∷ (10, not (own m b && counted (blocks i) b)) ∷ []
+abbrev pub block-refusals : (blocks m : ℕ) (block : List ℕ) → List (ℕ × Bool)
+block-refusals n m b = (9, not (adds-up b)) ∷ (10, not (own m b && counted n b)) ∷ []
+
+abbrev pub refusals-at : (image : List ℕ) (m : ℕ) → List (ℕ × Bool)
+refusals-at i m = block-refusals (blocks i) m (from-block m i)
 
 -- "first bad block decides, .. clash and cross-unit rules last as 10"
 unfoldable pub refusals : (image : List ℕ) → List (ℕ × Bool)
-refusals i = (8, misfit (length i)) ∷ pieces (blocks i) (block-refusals i) ++ (10, not (across i)) ∷ []
+refusals i = (8, misfit (length i)) ∷ pieces (blocks i) (refusals-at i) ++ (10, not (across i)) ∷ []
 
 -- an image is accepted where none of these applies
 abbrev pub refusal : (image : List ℕ) → ℕ

@@ -9,7 +9,7 @@ ghost use Rattle.chip.specs.System.{each};
 ghost use Rattle.chip.specs.Answer.{first-of};
 ghost use Rattle.image.specs.Block.{unit-of};
 ghost use Rattle.image.specs.Rules.{same-shared, sound};
-ghost use Rattle.image.specs.Image.{blocks, from-block, system-of, block-refusals, refused, restored};
+ghost use Rattle.image.specs.Image.{blocks, from-block, system-of, block-refusals, refusals-at, refused, restored};
 use crate::block;
 use crate::rules;
 use chip::answer;
@@ -29,19 +29,30 @@ pub struct Restored {
     pub system: System,
 }
 
-// Block by block: the first bad one decides, by its check before its fields.
+// The refusal of block m of n, read from where it starts: its check before its fields.
+fn block_refusal(b: &[u8], m: usize, n: usize) -> u8
+    requires { ⌜ 512 ≤ length (now b) ⌝ }
+    ensures { λ r. ⌜ r ≡ first-of (block-refusals n m (now (b .entry))) ⌝ }
+{
+    if block::sum(b, 256) != 0 {
+        return CHECK;
+    }
+    if !(block::own(b, m) & (b[1] as usize == n)) {
+        return FIELDS;
+    }
+    0
+}
+
+// Block by block: the first bad one decides.
 fn examined(image: &[u8], n: usize) -> u8
     requires { ⌜ (n ≤ 6) × (length (now image) ≡ 512 * n) ⌝ }
-    ensures { λ r. ⌜ r ≡ first-of (pieces n (block-refusals (now (image .entry)))) ⌝ }
+    ensures { λ r. ⌜ r ≡ first-of (pieces n (refusals-at (now (image .entry)))) ⌝ }
 {
     for m in 0..n {
         let at = 512 * m;
-        let b = &image[at..];
-        if block::sum(b, 256) != 0 {
-            return CHECK;
-        }
-        if !(block::own(b, m) & (b[1] as usize == n)) {
-            return FIELDS;
+        let refusal = block_refusal(&image[at..], m, n);
+        if refusal != 0 {
+            return refusal;
         }
     }
     0

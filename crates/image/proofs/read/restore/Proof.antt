@@ -7,7 +7,7 @@ use lib.ListN.{length}
 use Rattle.masks.proofs.Free.{free}
 use Rattle.pieces.specs.Pieces.{pieces}
 use Rattle.chip.specs.Answer.{first-of}
-use Rattle.image.specs.Image.{blocks, across, misfit, block-refusals, restored}
+use Rattle.image.specs.Image.{blocks, across, misfit, refusals-at, restored}
 use Rattle.image.proofs.Accepted.{well-sized, refusal-length, refusal-block, refusal-across}
 use Rattle.image.proofs.read.restore.Statement.{statement}
 use Rattle.image.proofs.read.restore.Tie as tie
@@ -30,7 +30,7 @@ unfolding restored
 returns-2 c =
     let image = c .before .before .before .before .before .before .args .image .now in
     let fit : misfit (length image) ≡ false = rw (← c .before .before .before .before .miscounted .ensures) (c .before .before .before .if1 .left) in
-    let some : first-of (pieces (blocks image) (block-refusals image)) ≢ 0 = λ e. c .before .if2 .taken (c .before .before .examined .ensures ∙ e) in
+    let some : first-of (pieces (blocks image) (refusals-at image)) ≢ 0 = λ e. c .before .if2 .taken (c .before .before .examined .ensures ∙ e) in
     c .refused2 .ensures
     ∙ rw (refusal-block image fit some, ← c .before .before .examined .ensures, ne-eqb _ 0 (c .before .if2 .taken)) refl
 
