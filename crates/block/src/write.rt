@@ -43,17 +43,9 @@ fn put_unit(b: &mut [u8], u: Unit)
     requires { ⌜ 16 ≤ length (now b) ⌝ }
     ensures { λ r. ⌜ now (b .exit) ≡ unit-bytes u ++ drop 16 (now (b .entry)) ⌝ }
 {
-    let a = u.accumulator;
+    let values = u.values();
+    bytes::copy(&values, b);
     let marks = u.marks();
-    b[0] = a[0].value;
-    b[1] = a[1].value;
-    b[2] = a[2].value;
-    b[3] = a[3].value;
-    b[4] = a[4].value;
-    b[5] = a[5].value;
-    b[6] = a[6].value;
-    b[7] = a[7].value;
-    b[8] = a[8].value;
     b[9] = (marks % 256) as u8;
     b[10] = (marks / 256) as u8;
     b[11] = u.dp;
@@ -73,15 +65,6 @@ fn put_units(b: &mut [u8], units: [Unit; 6], n: usize)
     }
 }
 
-fn put_table(b: &mut [u8], table: [u8; 16])
-    requires { ⌜ 16 ≤ length (now b) ⌝ }
-    ensures { λ r. ⌜ now (b .exit) ≡ table ++ drop 16 (now (b .entry)) ⌝ }
-{
-    for i in 0..16 {
-        b[i] = table[i];
-    }
-}
-
 fn put_shared(b: &mut [u8], shared: Shared)
     requires { ⌜ 32 ≤ length (now b) ⌝ }
     ensures { λ r. ⌜ now (b .exit) ≡ shared-bytes shared ++ drop 32 (now (b .entry)) ⌝ }
@@ -91,7 +74,7 @@ fn put_shared(b: &mut [u8], shared: Shared)
     b[1] = shared.gsr.byte();
     b[2] = shared.ivr;
     let table = shared.table;
-    put_table(&mut b[16..], table);
+    bytes::copy(&table, &mut b[16..]);
 }
 
 pub fn write(b: &mut [u8], system: System)

@@ -75,6 +75,7 @@ outcomes = record {
   Unit-translated = λ κs a x y v w p q. (same p q, refl);
   Unit-change = λ κs a x y v w p q. (same p q, refl);
   Unit-consistent = λ κs a x y v w p q. (same p q, refl);
+  Unit-values = λ κs a x y v w p q. (same p q, refl);
   Unit-marks = λ κs a x y v w p q. (same p q, refl);
   Unit-held-lsr = λ κs a x y v w p q. (same p q, refl);
   Unit-lsr = λ κs a x y v w p q. (same p q, refl);

@@ -56,6 +56,7 @@ use Rattle.registers.proofs.unit.Unit.take as Unit-take
 use Rattle.registers.proofs.unit.Unit.translated as Unit-translated
 use Rattle.registers.proofs.unit.Unit.change as Unit-change
 use Rattle.registers.proofs.unit.Unit.consistent as Unit-consistent
+use Rattle.registers.proofs.unit.Unit.values as Unit-values
 use Rattle.registers.proofs.unit.Unit.marks as Unit-marks
 use Rattle.registers.proofs.unit.Unit.held_lsr as Unit-held-lsr
 use Rattle.registers.proofs.unit.Unit.lsr as Unit-lsr
@@ -144,6 +145,7 @@ pub record Outcomes : Type 0 where
   pub Unit-translated : At-most-one Unit-translated.Kinds.ps Unit-translated.Kinds.r Unit-translated.Reads.Post
   pub Unit-change : At-most-one Unit-change.Kinds.ps Unit-change.Kinds.r Unit-change.Reads.Post
   pub Unit-consistent : At-most-one Unit-consistent.Kinds.ps Unit-consistent.Kinds.r Unit-consistent.Reads.Post
+  pub Unit-values : At-most-one Unit-values.Kinds.ps Unit-values.Kinds.r Unit-values.Reads.Post
   pub Unit-marks : At-most-one Unit-marks.Kinds.ps Unit-marks.Kinds.r Unit-marks.Reads.Post
   pub Unit-held-lsr : At-most-one Unit-held-lsr.Kinds.ps Unit-held-lsr.Kinds.r Unit-held-lsr.Reads.Post
   pub Unit-lsr : At-most-one Unit-lsr.Kinds.ps Unit-lsr.Kinds.r Unit-lsr.Reads.Post

@@ -26,25 +26,10 @@ fn put_head(b: &mut [u8], m: usize, shared: Shared)
     requires { ⌜ (m < 6) × (18 ≤ length (now b)) ⌝ }
     ensures { λ r. ⌜ now (b .exit) ≡ (m ∷ shared .board .count % 256 ∷ shared .table) ++ drop 18 (now (b .entry)) ⌝ }
 {
-    let table = shared.table;
     b[0] = m as u8;
     b[1] = (shared.board.count % 256) as u8;
-    b[2] = table[0];
-    b[3] = table[1];
-    b[4] = table[2];
-    b[5] = table[3];
-    b[6] = table[4];
-    b[7] = table[5];
-    b[8] = table[6];
-    b[9] = table[7];
-    b[10] = table[8];
-    b[11] = table[9];
-    b[12] = table[10];
-    b[13] = table[11];
-    b[14] = table[12];
-    b[15] = table[13];
-    b[16] = table[14];
-    b[17] = table[15];
+    let table = shared.table;
+    bytes::copy(&table, &mut b[2..]);
 }
 
 // Bytes 18 to 33: the accumulator, its marks, and the other registers.
@@ -52,17 +37,9 @@ fn put_unit(b: &mut [u8], u: Unit, shared: Shared)
     requires { ⌜ 16 ≤ length (now b) ⌝ }
     ensures { λ r. ⌜ now (b .exit) ≡ (list-of 9 (ac u) ++ high-first (marks u) ++ u .dp ∷ shared .ivr ∷ gsr-byte (shared .gsr) ∷ held-lsr u ∷ u .rdp ∷ []) ++ drop 16 (now (b .entry)) ⌝ }
 {
-    let a = u.accumulator;
+    let values = u.values();
+    bytes::copy(&values, b);
     let marks = u.marks();
-    b[0] = a[0].value;
-    b[1] = a[1].value;
-    b[2] = a[2].value;
-    b[3] = a[3].value;
-    b[4] = a[4].value;
-    b[5] = a[5].value;
-    b[6] = a[6].value;
-    b[7] = a[7].value;
-    b[8] = a[8].value;
     b[9] = (marks / 256) as u8;
     b[10] = (marks % 256) as u8;
     b[11] = u.dp;
@@ -72,31 +49,15 @@ fn put_unit(b: &mut [u8], u: Unit, shared: Shared)
     b[15] = u.rdp;
 }
 
-// The nine bytes of a descriptor, in accumulator order.
-fn put_descriptor(b: &mut [u8], d: Descriptor)
-    requires { ⌜ 9 ≤ length (now b) ⌝ }
-    ensures { λ r. ⌜ now (b .exit) ≡ bytes d ++ drop 9 (now (b .entry)) ⌝ }
-{
-    let x = d.bytes();
-    b[0] = x[0];
-    b[1] = x[1];
-    b[2] = x[2];
-    b[3] = x[3];
-    b[4] = x[4];
-    b[5] = x[5];
-    b[6] = x[6];
-    b[7] = x[7];
-    b[8] = x[8];
-}
-
-// Bytes 34 to 321: the 32 descriptors of unit m.
+// Bytes 34 to 321: the 32 descriptors of unit m, the nine bytes of each in accumulator order.
 fn put_descriptors(b: &mut [u8], descriptors: [Descriptor; 192], m: usize)
     requires { ⌜ (m < 6) × (288 ≤ length (now b)) ⌝ }
     ensures { λ r. ⌜ now (b .exit) ≡ pieces 32 (λ n. bytes (getD descriptors (32 * m + n) zeros)) ++ drop 288 (now (b .entry)) ⌝ }
 {
     for n in 0..32 {
         let at = 9 * n;
-        put_descriptor(&mut b[at..], descriptors[32 * m + n]);
+        let nine = descriptors[32 * m + n].bytes();
+        bytes::copy(&nine, &mut b[at..]);
     }
 }
 

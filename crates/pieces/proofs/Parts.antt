@@ -2,7 +2,8 @@
 --     rest         the part from a place on
 --     copied-more  a loop that copies a list, one store a turn
 --     appended     a part lent to a function that writes its front
---     further, further-zeros    the same, for one part after the other
+--     further, further-zeros, further-copy    the same, for one part after the other
+--     further-stores    stores behind what is written
 --     begun, next, ended    a loop that lends the part from w * m on to a function that writes piece m
 --     pieces-at    where piece m stands
 -- Assumes nothing.
@@ -14,7 +15,7 @@ use native.Mathlib.Nat.{le-of-suc-le-suc, not-suc-le-zero, eq-or-lt-of-le}
 use native.Mathlib.Numerals.{add-one}
 use native.Mathlib.Omega.{arith}
 use lib.ListN.{length, take, drop, getD, set, replicate, length-append, length-take, length-drop, length-replicate, drop-of-length-le}
-use lib.Seq.{take-all, take-at, drop-at, drop-drop}
+use lib.Seq.{take-all, take-at, drop-at, drop-drop, sets, sets-eq}
 use borrow.Rule.Slice.PartMut.{putMid, same-len-mid}
 use Rattle.pieces.specs.Pieces.{pieces, zeroed}
 use Rattle.pieces.proofs.Bytes.{zeroed-front}
@@ -59,6 +60,20 @@ further-zeros p e b t n k m h l j g =
     let size = simp (length-append, length-drop) at (ap length (h .1)) in
     let long : k ≤ length (take (length b - n) (drop n b)) = simp (length-take, length-drop) (omega (arith, size, h .0)) in
     further p (replicate k 0) e b t n k m h (length-replicate k 0) j (g ∙ zeroed-front k _ long)
+
+-- the same, of a part that the k bytes x are copied to
+pub further-copy : (p x e b t : List ℕ) (n k m : ℕ) → Front p n e b → length x ≡ k → n + k ≡ m
+    → t ≡ take (length x) x ++ drop (length x) (take (length b - n) (drop n b)) → Front (p ++ x) m e (putMid n (length b - n) b t)
+further-copy p x e b t n k m h l j g = further p x e b t n k m h l j (g ∙ rw (l, take-all k x (omega (arith, l))))
+
+-- stores from n on, one after the other
+pub further-stores : (p vs e b : List ℕ) (n m : ℕ) → Front p n e b → n + length vs ≡ m → m ≤ length e → Front (p ++ vs) m e (sets b n vs)
+further-stores p vs e b n m h j l =
+    let size = simp (length-append, length-drop) at (ap length (h .1)) in
+    let past : drop (n + length vs) b ≡ drop m e = rw (← drop-drop, h .1, drop-at p (drop n e) n (h .0), drop-drop, j) refl in (
+      length-append p vs ∙ omega (arith, h .0, j),
+      sets-eq vs b n (omega (arith, size, h .0, j)) ∙ rw (past, h .1, take-at p (drop n e) n (h .0), append-assoc),
+    )
 
 pub length-pieces : (w : ℕ) (f : ℕ → List ℕ) → ((i : ℕ) → length (f i) ≡ w) → (n : ℕ) → length (pieces n f) ≡ w * n
 unfolding pieces

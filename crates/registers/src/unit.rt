@@ -1,6 +1,7 @@
 // The registers that a unit has of its own: accumulator, descriptor pointers, local status (handbook 3.2.2 to 3.2.6).
 ghost use mathlib.Core.Path.{_≡_};
 ghost use Prim.Native.Nat.{_<_};
+ghost use Rattle.pieces.specs.Pieces.{list-of};
 ghost use Rattle.registers.specs.Unit.{marked, accumulator-of, rdp-of, l-of, rw-of, local, ac, marks, word, segment, needed, consistent, for-translation, for-load};
 ghost use Rattle.registers.specs.Unit.{with-byte, with-dp, with-rdp, with-l, with-rw, report, latch, take};
 ghost use Rattle.registers.specs.Unit.{translated, held-lsr, lsr};
@@ -169,18 +170,7 @@ impl Unit {
     pub fn take(mut self, d: Descriptor) -> Unit
         ensures { λ r. ⌜ r ≡ take d self ⌝ }
     {
-        let b = d.bytes();
-        let accumulator = [
-            local(b[0]),
-            local(b[1]),
-            local(b[2]),
-            local(b[3]),
-            local(b[4]),
-            local(b[5]),
-            local(b[6]),
-            local(b[7]),
-            local(b[8]),
-        ];
+        let accumulator = accumulator_of(d.bytes(), 0);
         self.accumulator = accumulator;
         self
     }
@@ -239,6 +229,24 @@ impl Unit {
     {
         let a = self.accumulator;
         a[0].global & a[1].global & a[2].global & a[3].global & a[6].global & a[8].global
+    }
+
+    // 3.2.2: the nine bytes.
+    pub fn values(self) -> [u8; 9]
+        ensures { λ r. ⌜ r ≡ list-of 9 (ac self) ⌝ }
+    {
+        let a = self.accumulator;
+        [
+            a[0].value,
+            a[1].value,
+            a[2].value,
+            a[3].value,
+            a[4].value,
+            a[5].value,
+            a[6].value,
+            a[7].value,
+            a[8].value,
+        ]
     }
 
     // 3.2.4: the marks, AC0's in bit 0. A nested sum, as `field` is one.

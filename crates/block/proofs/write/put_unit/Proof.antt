@@ -1,8 +1,13 @@
--- `put_unit` meets its contract: sixteen stores from the front. Assumes nothing.
+-- `put_unit` meets its contract: nine bytes are copied, and seven stored behind them. Assumes nothing.
 use borrow.Author.Needs.{needs}
 use native.Mathlib.Omega.{arith}
-use lib.ListN.{length-set}
-use lib.Seq.{sets-eq}
+use mathlib.Core.Path.{_≡_, refl, _∙_}
+use mathlib.Core.List.{List, [], _∷_, _++_}
+use Prim.Native.Nat.{ℕ}
+use lib.ListN.{drop, length-set}
+use Rattle.pieces.specs.Pieces.{list-of, low-first}
+use Rattle.pieces.proofs.Parts.{further-stores}
+use Rattle.registers.specs.Unit.{ac, marks, held-lsr}
 use Rattle.block.specs.Layout.{unit-bytes}
 use Rattle.masks.proofs.Free.{free}
 use Rattle.block.proofs.write.put_unit.Statement.{statement}
@@ -11,20 +16,21 @@ use Rattle.block.proofs.write.put_unit.Tie as tie
 returns : tie.Need-returns
 unfolding unit-bytes
 returns c =
-    let start = c .before .before .before .before in
-    rw (c .held-lsr .ensures, c .before .marks .ensures) (sets-eq (unit-bytes (start .args .u)) (start .args .b .now) 0 (omega arith))
+    let called = c .before .before .before .before in
+    let start = called .before .before .before .before .before in
+    let u = start .args .u in
+    let e = start .args .b .now in
+    let copied = called .copy .last .1 .0 in
+    let front : copied ≡ list-of 9 (ac u) ++ drop 9 e =
+    called .copy .ensures .1 ∙ rw (called .before .before .before .values .ensures) refl in
+    let registers : List ℕ = low-first (marks u) ++ u .dp ∷ held-lsr u ∷ u .rdp ∷ 0 ∷ 0 ∷ [] in
+    rw (c .held-lsr .ensures, c .before .marks .ensures) (further-stores (list-of 9 (ac u)) registers e copied 9 16 (refl, front) refl (omega arith) .1)
 
 pub put-unit-spec : {M : Type 1} → statement M
 put-unit-spec =
     tie.close
     (tie.spec
-    free (λ c. search needs) (λ c. search needs) (λ c. search needs) (λ c. simp length-set (omega arith))
-    (λ c. search needs) (λ c. simp length-set (omega arith)) (λ c. search needs)
-    (λ c. simp length-set (omega arith)) (λ c. search needs) (λ c. simp length-set (omega arith))
-    (λ c. search needs) (λ c. simp length-set (omega arith)) (λ c. search needs)
-    (λ c. simp length-set (omega arith)) (λ c. search needs) (λ c. simp length-set (omega arith))
-    (λ c. search needs) (λ c. simp length-set (omega arith)) (λ c. search needs)
-    (λ c. simp length-set (omega arith)) (λ c. search needs) (λ c. simp length-set (omega arith))
-    (λ c. simp length-set (omega arith)) free
+    free (λ c. search needs) (λ c κs. search needs) free (λ c. search needs) (λ c. omega arith) (λ c. search needs)
+    (λ c. simp length-set (omega arith)) (λ c. simp length-set (omega arith)) free (λ c. simp length-set (omega arith))
     (λ c. simp length-set (omega arith)) (λ c. simp length-set (omega arith)) (λ c. simp length-set (omega arith))
-    (λ c. simp length-set (omega arith)) (λ c. simp length-set) returns)
+    (λ c. simp length-set (omega arith)) returns)

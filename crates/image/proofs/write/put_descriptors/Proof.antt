@@ -1,9 +1,11 @@
 -- `put_descriptors` meets its contract: a piece of 9 bytes in each turn. Assumes nothing.
+use borrow.Author.Needs.{needs}
 use native.Mathlib.Omega.{arith}
 use Prim.Native.Nat.{_+_, _*_, _-_}
-use mathlib.Core.Path.{refl}
+use mathlib.Core.Path.{refl, _∙_}
 use lib.ListN.{getD, length-take, length-drop}
 use Rattle.descriptors.specs.Descriptor.{zeros, bytes}
+use Rattle.masks.proofs.Free.{free}
 use Rattle.pieces.proofs.Parts.{Done, begun, next, ended}
 use Rattle.image.proofs.write.put_descriptors.Statement.{statement}
 use Rattle.image.proofs.write.put_descriptors.Tie as tie
@@ -16,9 +18,11 @@ abbrev μ-loop : tie.MeasureT-loop
 
 loop-again : tie.Need-loop-again Inv-loop μ-loop
 loop-again c =
-    let at = c .before .before .before .before .before .before .loop in
-    let put = c .before .before .put-descriptor in
-    next 9 _ (λ k. refl) _ _ (at .b) (put .last .0) (at .n) (at .inv) (omega arith) (put .kept .0) (put .ensures)
+    let at = c .before .before .before .before .before .before .before .before .loop in
+    let put = c .before .before .copy in
+    let nine = c .before .before .before .before .before .bytes in
+    next 9 _ (λ k. refl) _ _ (at .b) (put .last .1 .0) (at .n) (at .inv) (omega arith) (put .kept .1 .0)
+    (put .ensures .1 ∙ rw (nine .ensures) refl)
 
 returns : tie.Need-returns Inv-loop μ-loop
 returns c = ended 9 _ _ _ _ _ (c .before .loop .inv) (c .loop-test .left)
@@ -28,6 +32,6 @@ put-descriptors-spec =
     tie.close
     (tie.spec
     Inv-loop μ-loop (λ c. begun 9 _ _ _) (λ c. omega arith) (λ c. omega arith) (λ c. omega arith) (λ c. omega arith)
-    (λ c. omega arith) (λ c. omega arith) (λ c. omega arith) (λ c. omega arith)
+    (λ c. omega arith) free (λ c. search needs) (λ c. omega arith) (λ c. omega arith) (λ c. omega arith)
     (λ c κs. simp (length-take, length-drop) (omega arith)) (λ c. omega arith) (λ c. omega arith) loop-again
     (λ c. c .before .loop .inv .1) returns)

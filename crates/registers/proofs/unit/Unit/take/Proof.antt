@@ -1,28 +1,13 @@
--- `Unit::take` meets its contract. Assumes nothing.
-use borrow.Author.Needs.{needs}
+-- `Unit::take` meets its contract: none of the nine bytes is marked. Assumes nothing.
+use Rattle.masks.specs.Fields.{bit}
 use Rattle.masks.proofs.Free.{free}
+use Rattle.registers.specs.Unit.{accumulator-of}
 use Rattle.registers.proofs.unit.Unit.take.Statement.{statement}
 use Rattle.registers.proofs.unit.Unit.take.Tie as tie
 
 returns : tie.Need-returns
-returns c =
-    rw (
-      c .local9 .ensures,
-      c .before .local8 .ensures,
-      c .before .before .local7 .ensures,
-      c .before .before .before .local6 .ensures,
-      c .before .before .before .before .local5 .ensures,
-      c .before .before .before .before .before .local4 .ensures,
-      c .before .before .before .before .before .before .local3 .ensures,
-      c .before .before .before .before .before .before .before .local2 .ensures,
-      c .before .before .before .before .before .before .before .before .local .ensures,
-      c .before .before .before .before .before .before .before .before .before .bytes .ensures,
-    )
+unfolding accumulator-of bit
+returns c = rw (c .accumulator-of .ensures, c .before .bytes .ensures)
 
 pub take-spec : {M : Type 1} → statement M
-take-spec =
-    tie.close
-    (tie.spec
-    free (λ c. search needs) free (λ c. search needs) free (λ c. search needs) free (λ c. search needs) free
-    (λ c. search needs) free (λ c. search needs) free (λ c. search needs) free (λ c. search needs) free
-    (λ c. search needs) free returns)
+take-spec = tie.close (tie.spec free free returns)
