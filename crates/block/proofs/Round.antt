@@ -22,7 +22,7 @@ use Rattle.registers.specs.declared.shared.Shared.{Shared}
 use Rattle.chip.specs.declared.system.System.{System}
 use Rattle.block.specs.Layout.{size, unit-place, descriptor-place, unit-bytes, descriptor-bytes, shared-bytes, form}
 use Rattle.block.specs.Layout.{unit-of, descriptor-of, shared-of, system-of, read}
-use Rattle.chip.specs.System.{present, unit, descriptor, each}
+use Rattle.chip.specs.System.{present, unit, descriptor}
 use Rattle.chip.proofs.Each.{filled-is}
 use Rattle.descriptors.specs.Clean.{Clean-descriptor}
 use Rattle.registers.specs.Clean.{Clean-unit, Clean-shared}

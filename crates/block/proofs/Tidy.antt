@@ -4,12 +4,12 @@
 --     past-stays      bytes past the block stay, and so does the length
 -- Assumes nothing.
 use Prim.Native.Nat.{ℕ, _*_, _^_, _<_, _≤_, min}
-use mathlib.Core.Path.{_≡_, refl, ap, _∙_}
+use mathlib.Core.Path.{_≡_, refl, ap}
 use mathlib.Core.Bool.{Bool, true, false, cond}
 use mathlib.Core.List.{List, _++_}
 use native.Mathlib.Omega.{arith}
 use lib.Dec.{ltb, lit<}
-use lib.ListN.{length, drop, getD, replicate, length-drop, length-take, length-replicate, getD-replicate, List·getD-eq-default}
+use lib.ListN.{length, drop, getD, length-drop, length-take, List·getD-eq-default}
 use lib.Seq.{drop-at}
 use borrow.Author.Tests.{ltb-true, ltb-false}
 use Rattle.pieces.specs.Pieces.{Bytes, list-of, low-first-at}
@@ -18,7 +18,6 @@ use Rattle.pieces.proofs.Stores.{at-listed}
 use Rattle.descriptors.specs.Descriptor.{zeros}
 use Rattle.registers.specs.Unit.{local, marked, accumulator-of, no-unit, ac}
 use Rattle.registers.specs.Shared.{entry}
-use Rattle.chip.specs.System.{each}
 use Rattle.chip.specs.Reset.{blank, nothing}
 use Rattle.descriptors.proofs.Clean.{clean-twice}
 use Rattle.registers.proofs.Clean.{rdp-twice}

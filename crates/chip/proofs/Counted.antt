@@ -1,5 +1,5 @@
 -- The count is one to six, if it was: no step changes it but a fresh start, whose own is. Assumes nothing.
-use mathlib.Core.Path.{_≡_, refl}
+use mathlib.Core.Path.{_≡_}
 use mathlib.Core.Bool.{false}
 use Rattle.registers.specs.declared.shared.Board.{Board}
 use Rattle.chip.specs.System.{with-units, with-shared, with-descriptor}

@@ -1,15 +1,14 @@
 -- P2: a save and a restore, what they answer and leave, and the round trip both ways. Assumes nothing.
 use Prim.Native.Nat.{ℕ, _*_, _≤_}
 use mathlib.Core.Path.{_≡_, refl, sym, ap, _∙_}
-use mathlib.Core.Logic.{_≢_, _↔_}
+use mathlib.Core.Logic.{_≢_}
 use mathlib.Core.Bool.{true, false, not, cond, true≢false}
 use mathlib.Core.List.{List}
 use native.Mathlib.Omega.{arith}
-use lib.Dec.{eqb, lit<}
+use lib.Dec.{lit<}
 use lib.ListN.{length}
-use borrow.Author.Tests.{eqb-false}
 use Rattle.descriptors.proofs.Clash.{clash-matches}
-use Rattle.chip.specs.Answer.{done, values, granted, first-of, miscounted}
+use Rattle.chip.specs.Answer.{values, granted, first-of, miscounted}
 use Rattle.chip.specs.System.{descriptor}
 use Rattle.chip.specs.Clean.{Clean}
 use Rattle.chip.specs.declared.answer.Answer.the-variants.{Done}
@@ -22,7 +21,7 @@ use Rattle.block.specs.Layout.{short, read, written}
 use Rattle.block.proofs.Tidy.{read-clean}
 use Rattle.image.specs.Block.{size}
 use Rattle.image.specs.Rules.{sound}
-use Rattle.image.specs.Image.{form, system-of, refusals}
+use Rattle.image.specs.Image.{form, system-of}
 use Rattle.image.specs.Image as image
 use Rattle.image.proofs.Accepted as accepted
 use Rattle.image.proofs.Sound.{sound-law, invariants-sound}
@@ -33,9 +32,8 @@ use Rattle.cleftromi.specs.Fields.{number-of, refusal}
 use Rattle.cleftromi.proofs.Fields.{fields}
 use Rattle.cleftromi.proofs.Blocks.{Holds}
 use Rattle.cleftromi.proofs.Images.{written-holds, save-told, savable, save-sound, save-done, restore-told, restorable, restore-done}
-use Rattle.demands.specs.Histories.{Save, Restore, Reached}
 use Rattle.demands.specs.Demands.{As-stated, One-match, Same-marked}
-use Rattle.demands.specs.Requests.{As-long, End-of-shift-image}
+use Rattle.demands.specs.Requests.{End-of-shift-image}
 use Rattle.demands.proofs.Calls.{Made-save, made-save, Made-restore, made-restore}
 use Rattle.demands.proofs.Histories.{reached-good}
 

@@ -3,18 +3,17 @@
 --     system-back      it reads as the system
 --     form-refusal     it breaks no rule but those of `sound`: refused as 10 where the system breaks one of them, accepted otherwise
 -- Assumes nothing.
-use Prim.Native.Nat.{ℕ, zero, suc, _+_, _*_, _/_, _%_, _^_, _<_, _≤_}
-use mathlib.Core.Path.{_≡_, refl, sym, ap, subst, _∙_}
+use Prim.Native.Nat.{ℕ, suc, _+_, _*_, _/_, _%_, _^_, _<_, _≤_}
+use mathlib.Core.Path.{_≡_, refl, sym, ap, _∙_}
 use mathlib.Core.Bool.{Bool, true, false, not, _&&_, _||_, cond}
 use mathlib.Core.List.{List, [], _∷_, _++_, append-assoc, append-nil}
-use native.Mathlib.Numerals.{add-one}
 use native.Mathlib.Omega.{arith}
 use lib.Dec.{eqb}
-use lib.ListN.{length, drop, getD, replicate, length-replicate, List·getD-append}
+use lib.ListN.{length, drop, replicate, length-replicate, List·getD-append}
 use lib.Seq.{drop-drop, getD-drop, getD-at, getD-append-add}
 use borrow.Author.Tests.{eq-eqb, ne-eqb, le-ltb}
 use Rattle.masks.specs.Fields.{bit, every, field}
-use Rattle.masks.proofs.Bits.{bit-field, every-at, field-fits}
+use Rattle.masks.proofs.Bits.{every-at, field-fits}
 use Rattle.pieces.specs.Pieces.{list-of, pieces, high-first}
 use Rattle.pieces.proofs.Bytes.{word-back}
 use Rattle.pieces.proofs.Parts.{length-pieces, pieces-at}
@@ -23,7 +22,7 @@ use Rattle.descriptors.specs.Status.{clean}
 use Rattle.descriptors.specs.Descriptor.{bytes, zeros}
 use Rattle.descriptors.specs.Clean.{Clean-descriptor}
 use Rattle.descriptors.proofs.Clean.{status-fits}
-use Rattle.registers.specs.Unit.{local, byte, rdp-of, ac, marks as marks-of, marked, accumulator-of, held-lsr, no-unit}
+use Rattle.registers.specs.Unit.{byte, rdp-of, ac, marks as marks-of, held-lsr, no-unit}
 use Rattle.registers.specs.Shared.{entry, gsr-byte}
 use Rattle.registers.specs.Clean.{Clean-unit, Clean-shared}
 use Rattle.registers.proofs.Numbers.{small, rdp-fits}
@@ -34,7 +33,6 @@ use Rattle.chip.specs.Answer.{first-of}
 use Rattle.chip.specs.Clean.{Clean}
 use Rattle.chip.proofs.Each.{filled-is}
 use Rattle.descriptors.specs.declared.descriptor.Descriptor.{Descriptor}
-use Rattle.registers.specs.declared.unit.Unit.{Unit}
 use Rattle.chip.specs.declared.system.System.{System}
 use Rattle.image.specs.Block.{size, number, count, rdp, place, ssr, reserved, words, adds-up, fields, check, block}
 use Rattle.image.specs.Block.{shared-of, unit-of, descriptor-of}

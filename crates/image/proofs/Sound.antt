@@ -20,7 +20,6 @@ use Rattle.chip.specs.Clean.{Clean}
 use Rattle.chip.proofs.Marked.{Agreed}
 use Rattle.chip.proofs.Once.{Apart}
 use Rattle.chip.proofs.Invariants.{Invariants}
-use Rattle.descriptors.specs.declared.descriptor.Descriptor.{Descriptor}
 use Rattle.registers.specs.declared.unit.Unit.{Unit}
 use Rattle.chip.specs.declared.system.System.{System}
 use Rattle.image.specs.Rules.{same-marked, agreed, apart, sound}

@@ -3,7 +3,7 @@ use Prim.Native.Nat.{ℕ, zero, suc, _+_, _*_, _-_, _%_, _^_}
 use mathlib.Core.Bool.{Bool}
 use mathlib.Core.List.{List, [], _∷_, _++_}
 use lib.Dec.{eqb}
-use lib.ListN.{take, drop, getD, replicate}
+use lib.ListN.{drop, getD, replicate}
 use Rattle.pieces.specs.Pieces.{list-of, pieces, high-first, high-first-at}
 use Rattle.descriptors.specs.Descriptor.{bytes}
 use Rattle.registers.specs.Unit.{ac, marks as marks-of, accumulator-of, l-of, rw-of, held-lsr}

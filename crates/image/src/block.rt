@@ -2,13 +2,11 @@
 ghost use mathlib.Core.Path.{_≡_};
 ghost use Prim.Native.Nat.{_*_, _+_, _%_, _≤_, _<_, _^_};
 ghost use lib.ListN.{length};
+ghost use lib.Dec.{eqb};
 ghost use mathlib.Core.Bool.{_&&_};
 ghost use Rattle.masks.specs.Fields.{every};
-ghost use Rattle.image.specs.Block.{words, reserved, ssr, shared-of, unit-of, descriptor-of};
-ghost use Rattle.image.specs.Rules.{registers-clear, nvr-alone, allowed, own, counted};
-ghost use Prim.Native.Nat.{ℕ};
-ghost use lib.Dec.{eqb};
-ghost use Rattle.image.specs.Block.{rdp};
+ghost use Rattle.image.specs.Block.{words, rdp, ssr, reserved, shared-of, unit-of, descriptor-of};
+ghost use Rattle.image.specs.Rules.{registers-clear, nvr-alone, allowed, own};
 use descriptors::descriptor::Descriptor;
 use registers::shared::Board;
 use registers::shared::Gsr;

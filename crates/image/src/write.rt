@@ -2,13 +2,13 @@
 ghost use mathlib.Core.Path.{_≡_};
 ghost use mathlib.Core.List.{[], _∷_, _++_};
 ghost use Prim.Native.Nat.{_+_, _*_, _%_, _≤_, _<_};
-ghost use lib.ListN.{length, take, drop, getD, replicate};
+ghost use lib.ListN.{length, drop, getD};
 ghost use Rattle.pieces.specs.Pieces.{list-of, pieces, high-first};
 ghost use Rattle.descriptors.specs.Descriptor.{zeros, bytes};
 ghost use Rattle.registers.specs.Unit.{ac, marks, held-lsr};
 ghost use Rattle.registers.specs.Shared.{gsr-byte};
-ghost use Rattle.image.specs.Block.{fields, check, block};
-ghost use Rattle.image.specs.Image.{form, save-refusal, saved};
+ghost use Rattle.image.specs.Block.{fields, block};
+ghost use Rattle.image.specs.Image.{save-refusal, saved};
 use crate::block;
 use crate::read;
 use crate::rules;

@@ -1,7 +1,7 @@
 -- `cleftromi_save` meets its contract: the block's length, then what image checks and writes. Assumes nothing.
 use borrow.Author.Needs.{needs}
 use borrow.Author.Tests.{eq-eqb, ne-eqb}
-use mathlib.Core.Path.{_≡_, refl, sym, ap, _∙_}
+use mathlib.Core.Path.{refl, sym, _∙_}
 use Rattle.masks.proofs.Free.{free}
 use Rattle.image.specs.Image.{saved}
 use Rattle.cleftromi.specs.Interface.{save-answer, save-after, save-image}

@@ -1,6 +1,6 @@
 -- `sum` meets its contract: word after word. Assumes nothing.
 use native.Mathlib.Omega.{arith}
-use Prim.Native.Nat.{_+_, _*_, _-_, _%_, _^_, _≤_}
+use Prim.Native.Nat.{_-_, _%_, _^_, _≤_}
 use mathlib.Core.Path.{_≡_, refl, _∙_}
 use native.Mathlib.Numerals.{add-one}
 use Rattle.image.specs.Block.{words}

@@ -3,7 +3,7 @@ use native.Mathlib.Omega.{arith}
 use Prim.Native.Nat.{_≤_, _*_, _/_, _%_, _-_}
 use mathlib.Core.Path.{_≡_, refl, ap, _∙_}
 use mathlib.Core.List.{List}
-use lib.ListN.{length, length-take, length-drop}
+use lib.ListN.{length-take, length-drop}
 use Rattle.masks.proofs.Free.{free}
 use Rattle.pieces.proofs.Parts.{rest}
 use Rattle.descriptors.specs.Descriptor.{zeros}

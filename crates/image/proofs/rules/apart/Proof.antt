@@ -1,8 +1,8 @@
 -- `apart` meets its contract: place after place. Assumes nothing.
 use native.Mathlib.Omega.{arith}
 use borrow.Author.Tests.{not-true, not-false}
-use Prim.Native.Nat.{_*_, _-_, _≤_}
-use mathlib.Core.Path.{_≡_, refl, sym, _∙_}
+use Prim.Native.Nat.{_-_, _≤_}
+use mathlib.Core.Path.{sym, _∙_}
 use mathlib.Core.Bool.{not, _&&_}
 use lib.ListN.{getD}
 use Rattle.masks.specs.Fields.{every}

@@ -2,10 +2,9 @@
 use native.Mathlib.Omega.{arith}
 use borrow.Author.Tests.{not-true, not-false}
 use Prim.Native.Nat.{_-_}
-use mathlib.Core.Path.{_≡_, refl, sym, ap, _∙_}
-use mathlib.Core.Bool.{Bool, true, false, not, _&&_}
+use mathlib.Core.Path.{refl, sym, _∙_}
+use mathlib.Core.Bool.{not, _&&_}
 use lib.ListN.{getD}
-use Rattle.masks.specs.Fields.{every}
 use Rattle.masks.proofs.Bits.{every-at}
 use Rattle.descriptors.specs.Descriptor.{zeros, enabled, collides}
 use Rattle.masks.proofs.Every.{Tried, begun, next, failed, ended}

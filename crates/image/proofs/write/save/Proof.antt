@@ -48,9 +48,12 @@ returns-4 c =
     let good = sym (tested .before .sound .ensures) ∙ not-false _ (tested .if3 .left) in
     (rw (count, size, good), rw (count, size, good, min-eq-left (few (sized .before))) (put .put-blocks .ensures))
 
+put-blocks-requires : tie.Need-put-blocks-requires
+put-blocks-requires c κs = (few (c .before .before .before .before), c .before .before .before .if2 .left)
+
 pub save-spec : {M : Type 1} → statement M
 save-spec =
     tie.close
     (tie.spec
     free returns (λ c. omega (arith, few c)) returns-2 free returns-3
-    (λ c κs. (few (c .before .before .before .before), c .before .before .before .if2 .left)) (λ c. search needs) returns-4)
+    put-blocks-requires (λ c. search needs) returns-4)
