@@ -63,17 +63,17 @@ pub owned : (m : ℕ) (b : List ℕ) → Bytes b → own m b ≡ true → Owned 
 unfolding own
 owned m b h e =
     let all = simp and-eq-true-iff at e in
-    let registers = all .0 .0 .1 .0 in
+    let registers = all .0 .0 .0 .1 in
     let high : marks b / 2 ^ 9 % 2 ^ 7 ≡ 0 = eqb-true _ _ (registers .0 .0 .0 .0) in
     let word : marks b < 2 ^ 16 = word-fits (h 28) (h 27) in
     let top : dp b / 2 ^ 5 % 2 ^ 3 ≡ 0 = eqb-true _ _ (registers .0 .0 .0 .1) in
     record {
-      is-number = eqb-true _ _ (all .0 .0 .0);
+      is-number = eqb-true _ _ (all .0 .0 .0 .0);
       nine-marks = omega arith;
       five-bits = omega (arith, h 29);
       gsr-back = gsr-again (gsr b) (h 31) (registers .0 .0 .1);
       lsr-back = lsr-again (lsr b) (h 32) (registers .0 .1);
-      rdp-back = rdp-clean (rdp b) (h 33) (and-eq-true-iff (clear 5 2 (rdp b)) _ .1 (registers .1, all .0 .0 .1 .1));
+      rdp-back = rdp-clean (rdp b) (h 33) (and-eq-true-iff (clear 5 2 (rdp b)) _ .1 (registers .1, all .0 .0 .1));
       status = λ n l. status-clean (ssr n b) (h _) (every-at 32 _ .0 (all .0 .1) n l);
       rest = λ i l. eqb-true _ _ (every-at 188 _ .0 (all .1) i l);
     }

@@ -34,7 +34,7 @@ allowed ssr = clear 5 2 ssr && (not (bit ssr IP) || bit ssr E)
 -- all but the count's: "unit number its place", the reserved bits, RDP, each status, the reserved bytes
 unfoldable pub own : (m : ℕ) (block : List ℕ) → Bool
 own m b =
-    eqb (number b) m && (registers-clear b && nvr-alone (rdp b))
+    eqb (number b) m && registers-clear b && nvr-alone (rdp b)
     && every 32 (λ n. allowed (ssr n b)) && every 188 (λ i. eqb (reserved b i) 0)
 
 -- "count the number of blocks"

@@ -3,9 +3,8 @@ ghost use mathlib.Core.Path.{_≡_};
 ghost use Prim.Native.Nat.{_*_, _+_, _%_, _≤_, _<_, _^_};
 ghost use lib.ListN.{length};
 ghost use lib.Dec.{eqb};
-ghost use mathlib.Core.Bool.{_&&_};
 ghost use Rattle.masks.specs.Fields.{every};
-ghost use Rattle.image.specs.Block.{words, rdp, ssr, reserved, shared-of, unit-of, descriptor-of};
+ghost use Rattle.image.specs.Block.{words, ssr, reserved, shared-of, unit-of, descriptor-of};
 ghost use Rattle.image.specs.Rules.{registers-clear, nvr-alone, allowed, own};
 use descriptors::descriptor::Descriptor;
 use registers::shared::Board;
@@ -104,10 +103,10 @@ pub(crate) fn descriptor_of(b: &[u8], n: usize) -> Descriptor
     }
 }
 
-// The reserved bits of the unit's registers and of GSR, and RDP's number under NVR.
+// The reserved bits of the unit's registers and of GSR.
 fn registers_clear(b: &[u8]) -> bool
     requires { ⌜ 512 ≤ length (now b) ⌝ }
-    ensures { λ r. ⌜ r ≡ registers-clear (now (b .entry)) && nvr-alone (rdp (now (b .entry))) ⌝ }
+    ensures { λ r. ⌜ r ≡ registers-clear (now (b .entry)) ⌝ }
 {
     let marks = pieces::join(b[27], b[28]);
     (marks / 512 % 128 == 0)
@@ -115,7 +114,13 @@ fn registers_clear(b: &[u8]) -> bool
         & (b[31] / 2 % 32 == 0)
         & (b[32] % 8 == 0)
         & (b[33] / 32 % 4 == 0)
-        & (!(b[33] / 128 % 2 == 1) | (b[33] % 32 == 0))
+}
+
+// RDP's number is zero under NVR.
+fn nvr_alone(rdp: u8) -> bool
+    ensures { λ r. ⌜ r ≡ nvr-alone rdp ⌝ }
+{
+    !(rdp / 128 % 2 == 1) | (rdp % 32 == 0)
 }
 
 // A status: bits 5 and 6 are reserved, and IP is there only with E.
@@ -154,5 +159,9 @@ pub(crate) fn own(b: &[u8], m: usize) -> bool
     requires { ⌜ 512 ≤ length (now b) ⌝ }
     ensures { λ r. ⌜ r ≡ own m (now (b .entry)) ⌝ }
 {
-    (b[0] as usize == m) & registers_clear(b) & statuses_allowed(b) & reserved_zero(b)
+    (b[0] as usize == m)
+        & registers_clear(b)
+        & nvr_alone(b[33])
+        & statuses_allowed(b)
+        & reserved_zero(b)
 }
