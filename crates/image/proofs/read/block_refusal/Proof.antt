@@ -2,35 +2,31 @@
 use native.Mathlib.Omega.{arith}
 use borrow.Author.Tests.{eq-eqb, ne-eqb, not-true, not-false}
 use Prim.Native.Nat.{ℕ, _%_, _^_}
-use mathlib.Core.Bool.{_&&_}
-use mathlib.Core.List.{List}
-use mathlib.Core.Path.{refl, sym, _∙_}
+use mathlib.Core.Bool.{Bool, true, false, not, _&&_, cond}
+use mathlib.Core.Path.{_≡_, refl, sym, _∙_}
+use Rattle.chip.specs.Answer.{first-of}
 use Rattle.image.specs.Block.{words}
 use Rattle.image.specs.Rules.{counted}
+use Rattle.image.specs.Image.{block-refusals}
 use Rattle.image.proofs.read.block_refusal.Statement.{statement}
 use Rattle.image.proofs.read.block_refusal.Tie as tie
-
-abbrev sums : List ℕ → ℕ
-sums b = words 256 b % 2 ^ 16
 
 returns : tie.Need-returns
 returns c = rw (ne-eqb _ 0 (λ e. c .if1 .taken (c .before .sum .ensures ∙ e))) refl
 
+-- past the check the fields decide
+by-fields : (c : tie.After-own) (n : ℕ) (passed : Bool) → c .own .result && counted n (c .before .before .before .before .args .b .now) ≡ passed
+    → cond (not passed) 10 0 ≡ first-of (block-refusals n (c .before .before .before .before .args .m) (c .before .before .before .before .args .b .now))
+by-fields c n passed e =
+    let b = c .before .before .before .before .args .b .now in
+    let good = eq-eqb (words 256 b % 2 ^ 16) 0 (sym (c .before .before .sum .ensures) ∙ c .before .if1 .left) in
+    rw (good, ← c .own .ensures, e) refl
+
 returns-2 : tie.Need-returns-2
-returns-2 c =
-    let called = c .before .before .before .before in
-    let start = called .before .before in
-    let good = eq-eqb (sums (start .args .b .now)) 0 (sym (called .sum .ensures) ∙ c .before .before .before .if1 .left) in
-    let fields = c .before .before .own .result && counted (start .args .n) (start .args .b .now) in
-    rw (good, ← c .before .before .own .ensures, not-true fields (c .if2 .taken)) refl
+returns-2 c = by-fields (c .before .before) _ false (not-true _ (c .if2 .taken))
 
 returns-3 : tie.Need-returns-3
-returns-3 c =
-    let called = c .before .before .before .before in
-    let start = called .before .before in
-    let good = eq-eqb (sums (start .args .b .now)) 0 (sym (called .sum .ensures) ∙ c .before .before .before .if1 .left) in
-    let fields = c .before .before .own .result && counted (start .args .n) (start .args .b .now) in
-    rw (good, ← c .before .before .own .ensures, not-false fields (c .if2 .left)) refl
+returns-3 c = by-fields (c .before .before) _ true (not-false _ (c .if2 .left))
 
 pub block-refusal-spec : {M : Type 1} → statement M
 block-refusal-spec =
