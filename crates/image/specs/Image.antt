@@ -51,6 +51,7 @@ misfit bytes = not (eqb (bytes % size) 0) || miscounted (bytes / size)
 abbrev pub block-refusals : (blocks m : ℕ) (block : List ℕ) → List (ℕ × Bool)
 block-refusals n m b = (9, not (adds-up b)) ∷ (10, not (own m b && counted n b)) ∷ []
 
+-- those of block m of an image
 abbrev pub refusals-at : (image : List ℕ) (m : ℕ) → List (ℕ × Bool)
 refusals-at i m = block-refusals (blocks i) m (from-block m i)
 

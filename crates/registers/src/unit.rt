@@ -166,7 +166,7 @@ impl Unit {
             .with_byte(6, local(number))
     }
 
-    // 4.6.2.3.
+    // 4.6.2.3. No byte is marked.
     pub fn take(mut self, d: Descriptor) -> Unit
         ensures { λ r. ⌜ r ≡ take d self ⌝ }
     {
