@@ -53,17 +53,17 @@ pub struct Values {
     pub byte: u8,
 }
 
-// An answer, the interrupt request as it stands after the call, and the whole system after it.
+// The whole system after a call, the answer, and the interrupt request as it then stands.
 pub struct Outcome {
+    pub system: System,
     pub answer: Answer,
     pub irq: bool,
-    pub system: System,
 }
 
-// The byte that a read answers, and the whole system after it.
+// The whole system after a read, and the byte that it answers.
 pub struct Reading {
-    pub byte: u8,
     pub system: System,
+    pub byte: u8,
 }
 
 impl Refusal {

@@ -8,10 +8,11 @@ use registers::shared::Shared;
 use registers::unit::Change;
 use registers::unit::Unit;
 
+// The numbers of what is shared stand between the two arrays, so that a compiler moves each of them as one piece.
 pub struct System {
-    pub descriptors: [Descriptor; 192],
     pub units: [Unit; 6],
     pub shared: Shared,
+    pub descriptors: [Descriptor; 192],
 }
 
 impl System {
