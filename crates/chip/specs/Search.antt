@@ -3,6 +3,8 @@
 use Prim.Native.Nat.{ℕ, suc, zero, _*_, _%_, _<_}
 use mathlib.Core.Bool.{Bool, true, false, _&&_, cond}
 use mathlib.Core.Path.{_≡_}
+use Rattle.masks.specs.Fields.{bit}
+use Rattle.descriptors.specs.Status.{E, IP}
 use Rattle.descriptors.specs.Descriptor.{matches, pending, collides}
 use Rattle.registers.specs.Unit.{none}
 use Rattle.chip.specs.System.{present, descriptor}
@@ -36,6 +38,12 @@ abbrev pub answers : Sought → Descriptor → Bool
 answers (Match page number) e = matches e page number
 answers (Clash d) e = collides d e
 answers Pending e = pending e
+
+-- 3.1.6: what a descriptor must have to be it, by its status alone: E to match or to be collided with, and IP
+abbrev pub admits : Sought → (ssr : ℕ) → Bool
+admits (Match page number) ssr = bit ssr E
+admits (Clash d) ssr = bit ssr E
+admits Pending ssr = bit ssr IP
 
 -- the first descriptor of the system, and of unit m, of which p holds
 abbrev pub in-system : (Descriptor → Bool) → System → Found

@@ -2,9 +2,10 @@
 ghost use mathlib.Core.Path.{_≡_};
 ghost use Prim.Native.Nat.{_+_, _≤_, _<_};
 ghost use Rattle.chip.specs.System.{descriptor};
-ghost use Rattle.chip.specs.Search.{first, found, number-of, answers, in-system, in-unit, irq};
+ghost use Rattle.chip.specs.Search.{first, found, number-of, admits, answers, in-system, in-unit, irq};
 use crate::system::System;
 use descriptors::descriptor::Descriptor;
+use descriptors::status;
 use registers::unit;
 
 // What is sought of a descriptor.
@@ -21,6 +22,17 @@ pub enum Found {
 }
 
 impl Sought {
+    // 3.1.6: whether a descriptor of this status can be it.
+    fn admits(self, ssr: u8) -> bool
+        ensures { λ r. ⌜ r ≡ admits self ssr ⌝ }
+    {
+        match self {
+            Sought::Match(_, _) => ssr & status::E != 0,
+            Sought::Clash(_) => ssr & status::E != 0,
+            Sought::Pending => ssr & status::IP != 0,
+        }
+    }
+
     fn answers(self, e: Descriptor) -> bool
         ensures { λ r. ⌜ r ≡ answers self e ⌝ }
     {
@@ -59,9 +71,11 @@ impl System {
         ensures { λ r. ⌜ r ≡ first (λ i. answers sought (descriptor self i)) from n ⌝ }
     {
         for i in from..from + n {
-            let d = self.descriptors[i];
-            if sought.answers(d) {
-                return Found::At(i);
+            if sought.admits(self.descriptors[i].ssr) {
+                let d = self.descriptors[i];
+                if sought.answers(d) {
+                    return Found::At(i);
+                }
             }
         }
         Found::Nowhere
