@@ -3,7 +3,8 @@ ghost use mathlib.Core.Path.{_≡_};
 ghost use Prim.Native.Nat.{_+_, _*_, _≤_, _<_, min};
 ghost use lib.ListN.{length, drop};
 ghost use Rattle.chip.specs.System.{each};
-ghost use Rattle.block.specs.Layout.{unit-place, unit-of, descriptor-of, shared-of, read};
+ghost use Rattle.chip.specs.Reset.{nothing};
+ghost use Rattle.block.specs.Layout.{unit-place, descriptor-place, unit-of, descriptor-of, shared-of, read};
 use chip::system::System;
 use descriptors::descriptor::Descriptor;
 use descriptors::status;
@@ -37,11 +38,13 @@ fn unit_of(b: &[u8]) -> Unit
     }
 }
 
-// The first n units, in place of those given.
-fn units_of(b: &[u8], mut units: [Unit; 6], n: usize) -> [Unit; 6]
+// The first n units, and no others.
+fn units_of(b: &[u8], n: usize) -> [Unit; 6]
     requires { ⌜ (n ≤ 6) × (128 ≤ length (now b)) ⌝ }
-    ensures { λ r. ⌜ r ≡ each n (λ m u. unit-of (drop (unit-place m) (now (b .entry)))) units ⌝ }
+    ensures { λ r. ⌜ r ≡ each n (λ m u. unit-of (drop (unit-place m) (now (b .entry)))) (nothing .units) ⌝ }
 {
+    let nothing = System::nothing();
+    let mut units = nothing.units;
     for m in 0..n {
         let at = 32 + 16 * m;
         units[m] = unit_of(&b[at..]);
@@ -61,6 +64,20 @@ fn descriptor_of(b: &[u8]) -> Descriptor
         ssr: status::clean(b[7]),
         asm: b[8],
     }
+}
+
+// The first n descriptors, and no others.
+fn descriptors_of(b: &[u8], n: usize) -> [Descriptor; 192]
+    requires { ⌜ (n ≤ 192) × (128 + 9 * n ≤ length (now b)) ⌝ }
+    ensures { λ r. ⌜ r ≡ each n (λ i d. descriptor-of (drop (descriptor-place i) (now (b .entry)))) (nothing .descriptors) ⌝ }
+{
+    let nothing = System::nothing();
+    let mut descriptors = nothing.descriptors;
+    for i in 0..n {
+        let at = 128 + 9 * i;
+        descriptors[i] = descriptor_of(&b[at..]);
+    }
+    descriptors
 }
 
 fn shared_of(b: &[u8]) -> Shared
@@ -84,18 +101,14 @@ fn shared_of(b: &[u8]) -> Shared
 pub fn read(b: &[u8]) -> System
     ensures { λ r. ⌜ r ≡ read (now (b .entry)) ⌝ }
 {
-    let mut system = System::nothing();
     if b.len() < SIZE {
-        return system;
+        return System::nothing();
     }
     let shared = shared_of(b);
-    system.shared = shared;
     let n = present(shared.board.count);
-    let units = system.units;
-    system.units = units_of(b, units, n);
-    for i in 0..32 * n {
-        let at = 128 + 9 * i;
-        system.descriptors[i] = descriptor_of(&b[at..]);
+    System {
+        units: units_of(b, n),
+        shared,
+        descriptors: descriptors_of(b, 32 * n),
     }
-    system
 }

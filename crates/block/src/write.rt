@@ -83,15 +83,16 @@ pub fn write(b: &mut [u8], system: System)
     if b.len() < read::SIZE {
         return;
     }
+    // All is taken before the first byte is written, and the descriptors are written first: so they are moved once.
     let shared = system.shared;
-    let n = read::present(shared.board.count);
-    put_shared(b, shared);
     let units = system.units;
-    put_units(&mut b[32..], units, n);
-    let past_units = 32 + 16 * n;
-    pieces::put_zeros(&mut b[past_units..], 16 * (6 - n));
     let descriptors = system.descriptors;
+    let n = read::present(shared.board.count);
     put_descriptors(&mut b[128..], descriptors, 32 * n);
     let past_descriptors = 128 + 288 * n;
     pieces::put_zeros(&mut b[past_descriptors..], 3968 - 288 * n);
+    put_shared(b, shared);
+    put_units(&mut b[32..], units, n);
+    let past_units = 32 + 16 * n;
+    pieces::put_zeros(&mut b[past_units..], 16 * (6 - n));
 }
