@@ -106,7 +106,7 @@ impl System {
         self
     }
 
-    // 4.5.3.2, or a violation.
+    // 4.5.3.2, or a violation. The system is changed where it stands, and handed on once.
     fn match_at(mut self, i: usize, cycle: Cycle, page: u16, number: u8, offset: u8) -> Outcome
         requires { ⌜ i < 192 ⌝ }
         ensures { λ r. ⌜ r ≡ match-at i cycle page number offset self ⌝ }
@@ -115,23 +115,23 @@ impl System {
         let unit = (i / 32) as u8;
         let descriptor = (i % 32) as u8;
         let win = d.protected();
-        if cycle.writes() & win {
-            let answer = Answer::Violation {
-                unit,
-                descriptor,
-                win: true,
-            };
-            return self.read_half(i, cycle)
-                .violation(page, number, i / 32, descriptor)
-                .granted(answer);
-        }
-        let answer = Answer::Mapped {
-            address: physical(d.physical_page(page), offset),
+        let mut answer = Answer::Violation {
             unit,
             descriptor,
-            win,
+            win: true,
         };
-        self.descriptors[i] = d.with_ssr(cycle.touched(d.ssr));
+        if cycle.writes() & win {
+            self = self.read_half(i, cycle)
+                .violation(page, number, i / 32, descriptor);
+        } else {
+            answer = Answer::Mapped {
+                address: physical(d.physical_page(page), offset),
+                unit,
+                descriptor,
+                win,
+            };
+            self.descriptors[i] = d.with_ssr(cycle.touched(d.ssr));
+        }
         self.granted(answer)
     }
 
