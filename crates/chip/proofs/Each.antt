@@ -1,6 +1,6 @@
 -- Laws of `each`: a loop that replaces one element after the other makes it, or fills an array from the front.
 --     each-more, each-at, each-past, length-each, each-related     what is done to each of the first n
---     filled, filled-is, filled-below, filled-past, length-filled     an array whose first n elements are put in
+--     filled-is, filled-below, filled-past, length-filled     an array whose first n elements are put in
 --     begun, next, ended      a loop that does so
 -- Assumes nothing.
 use Prim.Native.Nat.{ℕ, zero, suc, _+_, _<_, _≤_}
@@ -61,11 +61,6 @@ each-related R d (suc n) f (x ∷ xs) q h (suc k) l =
 -- ---- an array that is filled, one element after the other
 
 module _ {A : Type 0} where
-  -- a loop that puts one element after the other
-  pub filled : (d : A) (i : ℕ) (g : ℕ → A) (xs ys : List A) (v : A) → ys ≡ each i (λ k x. g k) xs → v ≡ g i
-      → set ys i v ≡ each (i + 1) (λ k x. g k) xs
-  filled d i g xs ys v p q = rw (p, q) (each-more d i (λ k x. g k) xs)
-
   -- so far i of n are put in
   abbrev pub Filling : (n : ℕ) (g : ℕ → A) (xs ys : List A) (i : ℕ) → Type 0
   Filling n g xs ys i = (i ≤ n) × (ys ≡ each i (λ k x. g k) xs)
@@ -76,7 +71,7 @@ module _ {A : Type 0} where
 
   pub next : (d : A) (g : ℕ → A) (xs : List A) {n i : ℕ} {ys : List A} {v : A} → Filling n g xs ys i → i < n → v ≡ g i
       → Filling n g xs (set ys i v) (i + 1)
-  next d g xs {i = i} {ys = ys} {v = v} f l q = (omega arith, filled d i g xs ys v (f .1) q)
+  next d g xs {i = i} f l q = (omega arith, rw (f .1, q) (each-more d i (λ k x. g k) xs))
 
   pub ended : (g : ℕ → A) (xs : List A) {n i : ℕ} {ys : List A} → Filling n g xs ys i → n ≤ i → ys ≡ each n (λ k x. g k) xs
   ended g xs {n = n} {i = i} f l = let all : i ≡ n = omega arith in f .1 ∙ rw all

@@ -1,19 +1,21 @@
 // Reading an image: the block of unit n starts at byte 512 times n and is read from there.
 ghost use mathlib.Core.Path.{_≡_};
 ghost use mathlib.Core.Bool.{_&&_};
-ghost use Prim.Native.Nat.{_*_, _/_, _≤_};
+ghost use Prim.Native.Nat.{_*_, _/_, _%_, _≤_};
 ghost use lib.ListN.{length};
 ghost use Rattle.masks.specs.Fields.{every};
 ghost use Rattle.pieces.specs.Pieces.{pieces};
 ghost use Rattle.chip.specs.System.{each};
+ghost use Rattle.chip.specs.Reset.{nothing};
 ghost use Rattle.chip.specs.Answer.{first-of};
-ghost use Rattle.image.specs.Block.{unit-of};
+ghost use Rattle.image.specs.Block.{unit-of, descriptor-of};
 ghost use Rattle.image.specs.Rules.{same-shared, sound};
-ghost use Rattle.image.specs.Image.{blocks, from-block, system-of, block-refusals, refusals-at, refused, restored};
+ghost use Rattle.image.specs.Image.{from-block, system-of, block-refusals, refusals-at, refused, restored};
 use crate::block;
 use crate::rules;
 use chip::answer;
 use chip::system::System;
+use descriptors::descriptor::Descriptor;
 use registers::unit::Unit;
 
 // The refusals of an image: its length, a block's check, its fields.
@@ -71,11 +73,13 @@ fn same_shared(image: &[u8], n: usize) -> bool
     true
 }
 
-// The first n units, in place of those given.
-fn units_of(image: &[u8], mut units: [Unit; 6], n: usize) -> [Unit; 6]
+// The first n units, and no others.
+fn units_of(image: &[u8], n: usize) -> [Unit; 6]
     requires { ⌜ (n ≤ 6) × (length (now image) ≡ 512 * n) ⌝ }
-    ensures { λ r. ⌜ r ≡ each n (λ m u. unit-of (from-block m (now (image .entry)))) units ⌝ }
+    ensures { λ r. ⌜ r ≡ each n (λ m u. unit-of (from-block m (now (image .entry)))) (nothing .units) ⌝ }
 {
+    let nothing = System::nothing();
+    let mut units = nothing.units;
     for m in 0..n {
         let at = 512 * m;
         units[m] = block::unit_of(&image[at..]);
@@ -83,19 +87,29 @@ fn units_of(image: &[u8], mut units: [Unit; 6], n: usize) -> [Unit; 6]
     units
 }
 
+// Their descriptors, 32 each, and no others.
+fn descriptors_of(image: &[u8], n: usize) -> [Descriptor; 192]
+    requires { ⌜ (n ≤ 6) × (length (now image) ≡ 512 * n) ⌝ }
+    ensures { λ r. ⌜ r ≡ each (32 * n) (λ i d. descriptor-of (i % 32) (from-block (i / 32) (now (image .entry)))) (nothing .descriptors) ⌝ }
+{
+    let nothing = System::nothing();
+    let mut descriptors = nothing.descriptors;
+    for i in 0..32 * n {
+        let at = 512 * (i / 32);
+        descriptors[i] = block::descriptor_of(&image[at..], i % 32);
+    }
+    descriptors
+}
+
 fn system_of(image: &[u8], n: usize) -> System
     requires { ⌜ (1 ≤ n) × (n ≤ 6) × (length (now image) ≡ 512 * n) ⌝ }
     ensures { λ r. ⌜ r ≡ system-of (now (image .entry)) ⌝ }
 {
-    let mut system = System::nothing();
-    system.shared = block::shared_of(image);
-    let units = system.units;
-    system.units = units_of(image, units, n);
-    for i in 0..32 * n {
-        let at = 512 * (i / 32);
-        system.descriptors[i] = block::descriptor_of(&image[at..], i % 32);
+    System {
+        units: units_of(image, n),
+        shared: block::shared_of(image),
+        descriptors: descriptors_of(image, n),
     }
-    system
 }
 
 // The rules across blocks.

@@ -3,6 +3,7 @@ use native.Mathlib.Omega.{arith}
 use Prim.Native.Nat.{_-_}
 use mathlib.Core.Path.{_∙_}
 use lib.ListN.{length-take, length-drop}
+use Rattle.masks.proofs.Free.{free}
 use Rattle.pieces.proofs.Parts.{rest}
 use Rattle.registers.specs.Unit.{no-unit}
 use Rattle.chip.proofs.Each.{Filling, begun, next, ended}
@@ -20,10 +21,15 @@ abbrev μ-loop : tie.MeasureT-loop
 loop-again : tie.Need-loop-again Inv-loop μ-loop
 loop-again c = next no-unit _ _ (c .before .before .before .loop .inv) (omega arith) (c .unit-of .ensures ∙ rw rest)
 
+returns : tie.Need-returns Inv-loop μ-loop
+returns c =
+    let from = c .before .before .before .nothing in
+    ended _ _ (c .before .loop .inv) (c .loop-test .left) ∙ rw (from .ensures)
+
 pub units-of-spec : {M : Type 1} → statement M
 units-of-spec =
     tie.close
     (tie.spec
-    Inv-loop μ-loop (λ c. begun _ _) (λ c. omega arith) (λ c. omega arith) (λ c. omega arith) (λ c. omega arith)
+    Inv-loop μ-loop free (λ c. begun _ _) (λ c. omega arith) (λ c. omega arith) (λ c. omega arith) (λ c. omega arith)
     (λ c κs. simp (length-take, length-drop) (omega arith)) (λ c. omega arith) (λ c. omega arith) (λ c. omega arith)
-    (λ c. omega arith) loop-again (λ c. ended _ _ (c .before .loop .inv) (c .loop-test .left)))
+    (λ c. omega arith) loop-again returns)
