@@ -82,7 +82,10 @@ impl System {
     {
         let t = self.fault(false)
             .in_all(Change::Report(unit::NO, unit::NONE));
-        t.with_unit(m, t.unit(m).latch(page, number).report(unit::WV, n))
+        let unit = t.unit(m)
+            .change(Change::Latch(page, number))
+            .change(Change::Report(unit::WV, n));
+        t.with_unit(m, unit)
     }
 
     // 4.5.3.7.

@@ -10,8 +10,8 @@ unfolding violation
 returns c =
     rw (
       c .with-unit .ensures,
-      c .before .report .ensures,
-      c .before .before .latch .ensures,
+      c .before .change2 .ensures,
+      c .before .before .change .ensures,
       c .before .before .before .unit .ensures,
       c .before .before .before .before .in-all .ensures,
       c .before .before .before .before .before .fault .ensures,
