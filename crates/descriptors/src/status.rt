@@ -20,11 +20,9 @@ pub const RESERVED: u8 = !(E | WP | M | IP | I | U);
 pub fn clean(ssr: u8) -> u8
     ensures { λ r. ⌜ r ≡ clean ssr ⌝ }
 {
-    if ssr & E == 0 {
-        ssr & !(RESERVED | IP)
-    } else {
-        ssr & !RESERVED
-    }
+    // No branch, as each descriptor of a block comes this way: E is bit 0, so that this is IP where E is set.
+    let ip = (ssr & E) * IP;
+    ssr & (!(RESERVED | IP) | ip)
 }
 
 // 4.5.3.2: a successful translation sets U, and IP if I is set.
