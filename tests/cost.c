@@ -1,6 +1,6 @@
-/* cost prepare all|few UNITS FILE: fills every descriptor of every unit, or the
- * last of the last one alone, in the library and in the model, and saves both
- * states and their image.
+/* cost prepare all|half|one UNITS FILE: fills every descriptor of every unit, or
+ * every second one, or the last of the last unit alone, in the library and in the
+ * model, and saves both states and their image.
  * cost ours|model OPERATION CALLS FILE: takes up a saved state and makes one
  * call that many times.  tests/cost counts the instructions of two such runs. */
 #include <stdio.h>
@@ -69,12 +69,19 @@ static void save_both(void)
         fail("the images of the library and the model differ");
 }
 
+/* One of how many is enabled. */
+static unsigned every(const char *filled, unsigned units)
+{
+    return strcmp(filled, "all") == 0 ? 1 : strcmp(filled, "half") == 0 ? 2 : 32 * units;
+}
+
 /* The accumulator and DP are left with the last descriptor of the last unit. */
-static void prepare(bool all, unsigned units, const char *path)
+static void prepare(const char *filled, unsigned units, const char *path)
 {
     call start = {CALL_START, {units, CLEFTROMI_NONE, 0}, 0};
+    unsigned step = every(filled, units);
     on_both(start);
-    for (unsigned i = all ? 0 : last_segment(units); i <= last_segment(units); i++)
+    for (unsigned i = step - 1; i <= last_segment(units); i += step)
         load_segment(i);
     set(0, CLEFTROMI_AST(code), space);
     save_both();
@@ -187,11 +194,11 @@ static uint64_t answer_to(bool ours, const char *name, long calls, model_answer 
 int main(int argc, char **argv)
 {
     if (argc == 5 && strcmp(argv[1], "prepare") == 0) {
-        prepare(strcmp(argv[2], "all") == 0, (unsigned)strtoul(argv[3], NULL, 10), argv[4]);
+        prepare(argv[2], (unsigned)strtoul(argv[3], NULL, 10), argv[4]);
         return 0;
     }
     if (argc != 5)
-        fail("prepare all|few UNITS FILE, or ours|model OPERATION CALLS FILE");
+        fail("prepare all|half|one UNITS FILE, or ours|model OPERATION CALLS FILE");
     model_answer wanted;
     take_up(argv[4]);
     uint64_t answer = answer_to(strcmp(argv[1], "ours") == 0, argv[2], strtol(argv[3], NULL, 10), &wanted);
