@@ -73,8 +73,9 @@ module _ {A : Type 0} where
       → Filling n g xs (set ys i v) (i + 1)
   next d g xs {i = i} f l q = (omega arith, rw (f .1, q) (each-more d i (λ k x. g k) xs))
 
-  pub ended : (g : ℕ → A) (xs : List A) {n i : ℕ} {ys : List A} → Filling n g xs ys i → n ≤ i → ys ≡ each n (λ k x. g k) xs
-  ended g xs {n = n} {i = i} f l = let all : i ≡ n = omega arith in f .1 ∙ rw all
+  pub ended : (g : ℕ → A) (xs zs : List A) {n i : ℕ} {ys : List A} → Filling n g xs ys i → n ≤ i → xs ≡ zs
+      → ys ≡ each n (λ k x. g k) zs
+  ended g xs zs {n = n} {i = i} f l e = let all : i ≡ n = omega arith in f .1 ∙ rw (all, e)
 
   -- an array whose first n elements come from g, and the others are z
   pub filled-is : (d : A) (n k : ℕ) (g : ℕ → A) (z : A) (l : List A) → length l ≡ k
