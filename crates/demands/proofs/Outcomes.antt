@@ -70,7 +70,6 @@ outcomes = record {
   unit-rw-of = λ κs a x y v w p q. (same p q, refl);
   unit-accumulator-of = λ κs a x y v w p q. (same p q, refl);
   Unit-report = λ κs a x y v w p q. (same p q, refl);
-  Unit-latch = λ κs a x y v w p q. (same p q, refl);
   Unit-take = λ κs a x y v w p q. (same p q, refl);
   Unit-translated = λ κs a x y v w p q. (same p q, refl);
   Unit-change = λ κs a x y v w p q. (same p q, refl);

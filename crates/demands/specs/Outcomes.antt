@@ -51,7 +51,6 @@ use Rattle.registers.proofs.unit.l_of as unit-l-of
 use Rattle.registers.proofs.unit.rw_of as unit-rw-of
 use Rattle.registers.proofs.unit.accumulator_of as unit-accumulator-of
 use Rattle.registers.proofs.unit.Unit.report as Unit-report
-use Rattle.registers.proofs.unit.Unit.latch as Unit-latch
 use Rattle.registers.proofs.unit.Unit.take as Unit-take
 use Rattle.registers.proofs.unit.Unit.translated as Unit-translated
 use Rattle.registers.proofs.unit.Unit.change as Unit-change
@@ -140,7 +139,6 @@ pub record Outcomes : Type 0 where
   pub unit-rw-of : At-most-one unit-rw-of.Kinds.ps unit-rw-of.Kinds.r unit-rw-of.Reads.Post
   pub unit-accumulator-of : At-most-one unit-accumulator-of.Kinds.ps unit-accumulator-of.Kinds.r unit-accumulator-of.Reads.Post
   pub Unit-report : At-most-one Unit-report.Kinds.ps Unit-report.Kinds.r Unit-report.Reads.Post
-  pub Unit-latch : At-most-one Unit-latch.Kinds.ps Unit-latch.Kinds.r Unit-latch.Reads.Post
   pub Unit-take : At-most-one Unit-take.Kinds.ps Unit-take.Kinds.r Unit-take.Reads.Post
   pub Unit-translated : At-most-one Unit-translated.Kinds.ps Unit-translated.Kinds.r Unit-translated.Reads.Post
   pub Unit-change : At-most-one Unit-change.Kinds.ps Unit-change.Kinds.r Unit-change.Reads.Post

@@ -158,7 +158,7 @@ impl Unit {
     }
 
     // 4.5.3.3.
-    pub fn latch(self, page: u16, number: u8) -> Unit
+    fn latch(self, page: u16, number: u8) -> Unit
         ensures { λ r. ⌜ r ≡ latch page number self ⌝ }
     {
         self.with_byte(0, local((page / 256) as u8))
