@@ -39,7 +39,7 @@ answers (Match page number) e = matches e page number
 answers (Clash d) e = collides d e
 answers Pending e = pending e
 
--- 3.1.6: what a descriptor must have to be it, by its status alone: E to match or to be collided with, and IP
+-- 3.1.6: what its status alone must have for a descriptor to be the one: E for a match or a clash, IP for an interrupt
 abbrev pub admits : Sought → (ssr : ℕ) → Bool
 admits (Match page number) ssr = bit ssr E
 admits (Clash d) ssr = bit ssr E

@@ -22,7 +22,7 @@ pub enum Found {
 }
 
 impl Sought {
-    // 3.1.6: whether a descriptor of this status can be it.
+    // 3.1.6: whether a descriptor of this status can be the one.
     fn admits(self, ssr: u8) -> bool
         ensures { λ r. ⌜ r ≡ admits self ssr ⌝ }
     {
