@@ -9,11 +9,14 @@
 #include "layout.h"
 #include "mix.h"
 #include "pair.h"
+#include "reasons.h"
 
 static pair both;
+static model before; /* the call */
 static mix calls;
+static reasons why;
 static uint8_t block[LAYOUT_BYTES];
-static unsigned long refused, granted, mapped, kept_bad;
+static unsigned long refused, granted, mapped, kept_bad, beyond;
 static unsigned long modified[MODEL_UNDEFINED + 1]; /* read-modify-writes, by the kind of answer */
 
 /* ------------------------------------------------------------------ */
@@ -97,21 +100,59 @@ static void make_block(void)
 /* Calls                                                               */
 /* ------------------------------------------------------------------ */
 
-/* Makes the table of the block, not of the library, fit some descriptor: an
- * access can then be the first call that the block sees. */
-static call aimed_access(void)
+static bool has_good_count(const model *m)
+{
+    return m->count >= 1 && m->count <= 6;
+}
+
+/* The block as if it had all six units. */
+static const model *with_six_units(void)
+{
+    static uint8_t copy[LAYOUT_BYTES];
+    static model m;
+    memcpy(copy, block, LAYOUT_BYTES);
+    copy[0] = 6;
+    layout_decode(copy, &m);
+    return &m;
+}
+
+/* Some enabled descriptor, now and then one of a unit that the count leaves out;
+ * or NULL. */
+static const model_descriptor *some_enabled(const model *m)
+{
+    unsigned unit, number;
+    return mix_often_first(&calls, mix_below(&calls, 4) ? m : with_six_units(), &unit, &number);
+}
+
+/* The table and the accumulators of the block, not of the library, ask for a page
+ * and a number: an access or a direct translation can then be the first call that
+ * the block sees. */
+static call asking(const model *m, unsigned page, uint8_t number)
+{
+    unsigned unit = mix_below(&calls, m->count), code = mix_below(&calls, 16);
+    uint8_t *ac = block + 32 + 16 * unit;
+    call access = {CALL_ACCESS, {code, mix_direction(&calls), (uint64_t)page << 8 | 0x5A}, 0};
+    call translation = {CALL_REGISTER, {unit, CLEFTROMI_TRANSLATE, CLEFTROMI_READ}, 0x5A};
+    memset(block + 16, number, 16);
+    ac[0] = (uint8_t)(page >> 8);
+    ac[1] = (uint8_t)page;
+    ac[6] = number;
+    return mix_below(&calls, 4) ? access : translation;
+}
+
+/* For what some descriptor matches, or for all of it but the number. */
+static call aimed_call(void)
 {
     static model m;
-    unsigned unit, number, page = mix_below(&calls, 65536);
     layout_decode(block, &m);
-    const model_descriptor *d = m.count >= 1 && m.count <= 6 ? mix_enabled(&calls, &m, &unit, &number) : NULL;
-    if (d != NULL) {
-        memset(block + 16, mix_number(&calls, d), 16);
-        page = mix_page(&calls, d);
+    const model_descriptor *d = has_good_count(&m) ? some_enabled(&m) : NULL;
+    if (d == NULL) {
+        unsigned code = mix_below(&calls, 16);
+        call c = {CALL_ACCESS, {code, mix_direction(&calls), 0x5A5A5A}, 0};
+        return c;
     }
-    unsigned code = mix_below(&calls, 16);
-    call c = {CALL_ACCESS, {code, mix_direction(&calls), (uint64_t)page << 8 | 0x5A}, 0};
-    return c;
+    unsigned page = mix_page(&calls, d);
+    return asking(&m, page, mix_below(&calls, 2) ? mix_number(&calls, d) : mix_other_number(&calls, d));
 }
 
 static void lend(void)
@@ -122,8 +163,16 @@ static void lend(void)
     pair_lend(&both, block, at, bytes, mix_random(&calls));
 }
 
+/* There is none to name in the units that the count has, and one in the space above. */
+static void note_beyond(call c)
+{
+    const model *six = with_six_units();
+    beyond += both.answer.kind == MODEL_UNDEFINED && both.answer.near == 0 && reasons_near(six, c, before.count);
+}
+
 static bool compare(call c, unsigned long number, uint64_t seed)
 {
+    before = both.m;
     if (!pair_call(&both, c)) {
         printf("seed %" PRIu64 ", block %lu, %zu bytes lent at %zu: ", seed, number, both.bytes, both.at);
         call_print(c);
@@ -132,6 +181,8 @@ static bool compare(call c, unsigned long number, uint64_t seed)
     refused += both.answer.refusal != 0;
     kept_bad += both.answer.refusal == 1;
     granted += both.answer.refusal == 0;
+    if (both.answer.refusal == 0)
+        reasons_note(&why, &before, c);
     mapped += both.answer.kind == MODEL_MAPPED;
     modified[both.answer.kind] += c.name == CALL_ACCESS && c.number[1] == CLEFTROMI_MODIFY;
     return true;
@@ -156,9 +207,12 @@ static bool try_block(unsigned long number, uint64_t seed)
         lend();
         return some_calls(number, seed);
     }
-    call first = aimed_access();
+    call first = aimed_call();
     lend();
-    return compare(first, number, seed) && compare(mix_single(&calls, &both.m), number, seed);
+    if (!compare(first, number, seed))
+        return false;
+    note_beyond(first);
+    return compare(mix_single(&calls, &both.m), number, seed);
 }
 
 int main(int argc, char **argv)
@@ -173,13 +227,16 @@ int main(int argc, char **argv)
     for (unsigned long i = 0; i < wanted; i++)
         if (!try_block(i, seed))
             return 1;
+    const char *missing = reasons_report(&why, "", wanted < 10000 ? 0 : 10);
     bool enough = wanted < 10000 || (refused > 100 && granted > 100 && mapped > 100 && kept_bad > 100 &&
                                      modified[MODEL_REFUSED] > 10 && modified[MODEL_MAPPED] > 100 &&
-                                     modified[MODEL_VIOLATION] > 100 && modified[MODEL_UNDEFINED] > 100);
+                                     modified[MODEL_VIOLATION] > 100 && modified[MODEL_UNDEFINED] > 100 &&
+                                     beyond > 10 && missing == NULL);
     printf("%lu blocks, %lu calls granted (%lu mapped), %lu refused (%lu for the count)", wanted, granted, mapped,
            refused, kept_bad);
-    printf(", of read-modify-writes %lu mapped, %lu violations, %lu undefined, %lu refused%s\n",
-           modified[MODEL_MAPPED], modified[MODEL_VIOLATION], modified[MODEL_UNDEFINED], modified[MODEL_REFUSED],
+    printf(", of read-modify-writes %lu mapped, %lu violations, %lu undefined, %lu refused",
+           modified[MODEL_MAPPED], modified[MODEL_VIOLATION], modified[MODEL_UNDEFINED], modified[MODEL_REFUSED]);
+    printf(", %lu undefined where units above the count would have been named%s\n", beyond,
            enough ? ", all the same" : ", but some of these were seen too seldom");
     return enough ? 0 : 1;
 }

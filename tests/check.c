@@ -29,7 +29,7 @@ static uint8_t rd(unsigned unit, unsigned address)
 {
     model_answer a = model_register(&m, unit, address, READ, 0xEE);
     CHECK(a.refusal == 0 && a.kind == MODEL_BYTE);
-    CHECK(a.win == 0 && a.unit == 0 && a.descriptor == 0 && a.address == 0);
+    CHECK(a.win == 0 && a.near == 0 && a.unit == 0 && a.descriptor == 0 && a.address == 0);
     last_irq = a.irq;
     return a.byte;
 }
@@ -38,7 +38,7 @@ static void wr(unsigned unit, unsigned address, uint8_t value)
 {
     model_answer a = model_register(&m, unit, address, WRITE, value);
     CHECK(a.refusal == 0 && a.kind == MODEL_DONE);
-    CHECK(a.win == 0 && a.unit == 0 && a.descriptor == 0 && a.byte == 0 && a.address == 0);
+    CHECK(a.win == 0 && a.near == 0 && a.unit == 0 && a.descriptor == 0 && a.byte == 0 && a.address == 0);
     last_irq = a.irq;
 }
 
@@ -51,25 +51,53 @@ static void start(uint64_t units, uint64_t selected)
 static bool is_mapped(model_answer a, uint32_t address, unsigned unit, unsigned descriptor, unsigned win, unsigned irq)
 {
     return a.refusal == 0 && a.kind == MODEL_MAPPED && a.address == address && a.unit == unit &&
-           a.descriptor == descriptor && a.win == win && a.irq == irq && a.byte == 0;
+           a.descriptor == descriptor && a.win == win && a.near == 0 && a.irq == irq && a.byte == 0;
 }
 
 static bool is_violation(model_answer a, unsigned unit, unsigned descriptor, unsigned irq)
 {
     return a.refusal == 0 && a.kind == MODEL_VIOLATION && a.address == 0 && a.unit == unit &&
-           a.descriptor == descriptor && a.win == 1 && a.irq == irq && a.byte == 0;
+           a.descriptor == descriptor && a.win == 1 && a.near == 0 && a.irq == irq && a.byte == 0;
+}
+
+/* P4, ruling 16: the place that an answer for want of a match names, or none. */
+static bool names(model_answer a, unsigned unit, unsigned descriptor)
+{
+    return a.near == 1 && a.unit == unit && a.descriptor == descriptor;
+}
+
+static bool names_none(model_answer a)
+{
+    return a.near == 0 && a.unit == 0 && a.descriptor == 0;
+}
+
+static bool without_match(model_answer a, unsigned kind, unsigned irq, unsigned byte)
+{
+    return a.refusal == 0 && a.kind == kind && a.address == 0 && a.win == 0 && a.irq == irq && a.byte == byte;
 }
 
 static bool is_undefined(model_answer a, unsigned irq)
 {
-    return a.refusal == 0 && a.kind == MODEL_UNDEFINED && a.address == 0 && a.unit == 0 && a.descriptor == 0 &&
-           a.win == 0 && a.irq == irq && a.byte == 0;
+    return without_match(a, MODEL_UNDEFINED, irq, 0x00) && names_none(a);
+}
+
+static bool is_near(model_answer a, unsigned irq, unsigned unit, unsigned descriptor)
+{
+    return without_match(a, MODEL_UNDEFINED, irq, 0x00) && names(a, unit, descriptor);
 }
 
 static bool is_refused(model_answer a, unsigned number)
 {
-    return a.refusal == number && a.kind == MODEL_REFUSED && a.address == 0 && a.unit == 0 && a.descriptor == 0 &&
-           a.win == 0 && a.irq == 0 && a.byte == 0;
+    return a.refusal == number && a.kind == MODEL_REFUSED && a.address == 0 && names_none(a) && a.win == 0 &&
+           a.irq == 0 && a.byte == 0;
+}
+
+/* A direct translation that finds no match, with IRQ 0. */
+static model_answer untranslated(unsigned unit)
+{
+    model_answer a = model_register(&m, unit, DT, READ, 0xEE);
+    CHECK(without_match(a, MODEL_BYTE, 0, 0xFF));
+    return a;
 }
 
 /* Globally write AC0 to AC8 through a unit. */
@@ -142,7 +170,7 @@ static void twelve_cases(void)
 
     load_figure();
     CHECK(is_mapped(access_number(0x01, READ, 0x400000), 0x800000, 0, 4, 0, 0)); /* 4 */
-    CHECK(is_undefined(access_number(0x01, READ, 0x3FFF00), 0));
+    CHECK(is_near(access_number(0x01, READ, 0x3FFF00), 0, 0, 0)); /* R has every page, for number 00 */
     CHECK(is_mapped(access_number(0x81, READ, 0x010000), 0x210000, 0, 3, 0, 0)); /* 5 */
     CHECK(is_mapped(access_number(0x02, READ, 0x010000), 0x110000, 0, 6, 0, 0)); /* 6 */
     CHECK(is_mapped(access_number(0x00, READ, 0xABCDEF), 0xABCDEF, 0, 0, 0, 0)); /* 7 */
@@ -170,7 +198,7 @@ static void twelve_cases(void)
     wr(0, SSR, 0x00);
     wr(0, SSR, 0x01);
     CHECK(rd(0, SSR) == 0x00);
-    CHECK(is_undefined(access_number(0x01, READ, 0x010000), 0));
+    CHECK(is_near(access_number(0x01, READ, 0x010000), 0, 0, 0));
 
     load_figure(); /* 12 */
     for (unsigned i = 0; i < 9; i++) {
@@ -320,14 +348,14 @@ static void undefined(void)
     wr(0, 0x06, 0x55);
     CHECK(rd(1, 0x06) == 0x55 && rd(2, 0x06) == 0x55);
     accumulate(0, 0x1111, 0x2222, 0x3333, 0x44, 0x66, 0x77);
-    CHECK(is_undefined(model_access(&m, 3, READ, 0xABCDEF), 0));
+    CHECK(is_near(model_access(&m, 3, READ, 0xABCDEF), 0, 1, 0));
     for (unsigned k = 0; k < 3; k++) {
         CHECK(rd(k, LSR) == 0xA8 && rd(k, RDP) == 0x80 && rd(k, GSR) == 0x80);
         CHECK(rd(k, AC0) == 0xAB && rd(k, AC1) == 0xCD && rd(k, AC6) == 0x55 && rd(k, AC3) == 0x22);
         for (unsigned n = 0; n < 9; n++)
             CHECK(m.unit[k].mark[n] == (n != 0 && n != 1 && n != 6));
     }
-    CHECK(is_undefined(model_access(&m, 3, WRITE, 0xABCDEF), 0));
+    CHECK(is_near(model_access(&m, 3, WRITE, 0xABCDEF), 0, 1, 0));
     for (unsigned k = 0; k < 3; k++)
         CHECK(rd(k, LSR) == 0xA0 && rd(k, GSR) == 0xC0);
 
@@ -343,7 +371,7 @@ static void undefined(void)
     CHECK(load(2, 9, 0x1000, 0xF000, 0x1000, 0x55, 0x03, 0xFF) == 0x00);
     CHECK(is_violation(model_access(&m, 3, WRITE, 0x100000), 2, 9, 0));
     CHECK(rd(2, RDP) == 9 && rd(2, LSR) == 0xC0 && rd(0, RDP) == 0x80 && rd(0, LSR) == 0x06);
-    CHECK(is_undefined(model_access(&m, 3, WRITE, 0x200000), 0));
+    CHECK(is_near(model_access(&m, 3, WRITE, 0x200000), 0, 1, 0));
     CHECK(rd(2, RDP) == 0x80 && rd(2, LSR) == 0xA0);
 
     /* a violation in one unit takes the earlier result from another */
@@ -427,7 +455,7 @@ static void modify_undefined(void)
         CHECK(last_irq == 1);
         accumulate(0, 0x1111, 0x2222, 0x3333, 0x44, 0x66, 0x77);
         model wanted = m;
-        CHECK(is_undefined(model_access(&m, 3, MODIFY, 0xABCDEF), 1));
+        CHECK(is_near(model_access(&m, 3, MODIFY, 0xABCDEF), 1, 1, 0));
         wanted.gsr = 0x81;
         for (unsigned k = 0; k < count; k++) {
             model_unit *u = &wanted.unit[k];
@@ -471,7 +499,7 @@ static void modify_protected(void)
 
     /* RW was 1 from an undefined access: 0 in every unit */
     wr(0, 0x02, 0x09);
-    CHECK(is_undefined(model_access(&m, 1, MODIFY, 0x654321), 0));
+    CHECK(is_near(model_access(&m, 1, MODIFY, 0x654321), 0, 1, 0));
     CHECK(rd(0, LSR) == 0xA8 && rd(1, LSR) == 0xA8 && rd(2, LSR) == 0xA8);
     CHECK(is_violation(model_access(&m, 0, MODIFY, 0x123456), 1, 0, 0));
     CHECK(rd(0, LSR) == 0x00 && rd(1, LSR) == 0xC0 && rd(2, LSR) == 0x00 && rd(0, AC0) == 0x65 && rd(1, AC0) == 0x12);
@@ -538,7 +566,7 @@ static void other_directions(void)
         CHECK(is_violation(model_access(&m, 0, writes[i], 0x123456), 1, 0, 0));
         CHECK(m.unit[1].d[0].ssr == 0x13);
         wr(0, 0x00, 0x01);
-        CHECK(is_undefined(model_access(&m, 0, writes[i], 0x123456), 0));
+        CHECK(is_near(model_access(&m, 0, writes[i], 0x123456), 0, 1, 0));
         CHECK(rd(0, LSR) == 0xA0 && rd(1, LSR) == 0xA0 && rd(0, GSR) == 0xC0);
     }
 }
@@ -562,8 +590,8 @@ static void modify_register(void)
 
 static bool same_answer(model_answer a, model_answer b)
 {
-    return a.refusal == b.refusal && a.kind == b.kind && a.irq == b.irq && a.win == b.win && a.unit == b.unit &&
-           a.descriptor == b.descriptor && a.byte == b.byte && a.address == b.address;
+    return a.refusal == b.refusal && a.kind == b.kind && a.irq == b.irq && a.win == b.win && a.near == b.near &&
+           a.unit == b.unit && a.descriptor == b.descriptor && a.byte == b.byte && a.address == b.address;
 }
 
 /* What 01 had in its place: a read, and then a write unless the read was
@@ -594,6 +622,139 @@ static void read_modify_write(void)
     other_directions();
     modify_register();
     read_then_write();
+}
+
+/* ------------------------------------------------------------------ */
+/* Why it was undefined (document 02, P4; ruling 16)                   */
+/* ------------------------------------------------------------------ */
+
+static const unsigned directions[] = {READ, WRITE, MODIFY};
+
+static void ask_for(unsigned page, unsigned number)
+{
+    wr(0, AC0, (uint8_t)(page >> 8));
+    wr(0, AC1, (uint8_t)page);
+    wr(0, AC6, (uint8_t)number);
+}
+
+/* By an access of each kind and by a direct translation: nothing matches, and this
+ * place is named, or none where the unit is MODEL_NONE. */
+static void check_reason(unsigned page, unsigned number, unsigned unit, unsigned descriptor)
+{
+    for (unsigned i = 0; i < 3; i++) {
+        model_answer a = access_number((uint8_t)number, directions[i], (uint32_t)page << 8 | 0xA5);
+        CHECK(unit == MODEL_NONE ? is_undefined(a, 0) : is_near(a, 0, unit, descriptor));
+    }
+    ask_for(page, number);
+    for (unsigned k = 0; k < m.count; k++) {
+        model_answer a = untranslated(k);
+        CHECK(unit == MODEL_NONE ? names_none(a) : names(a, unit, descriptor));
+    }
+}
+
+static void disable(unsigned unit, unsigned descriptor)
+{
+    wr(0, DP, (uint8_t)descriptor);
+    wr(unit, SSR, 0x00);
+}
+
+/* One descriptor, and each of the five answers of the match. */
+static void five_answers(void)
+{
+    start(1, MODEL_NONE);
+    CHECK(load(0, 7, 0x1200, 0xFF00, 0x3400, 0x05, 0x01, 0x0F) == 0x00);
+    CHECK(is_mapped(access_number(0x05, READ, 0x12AB00), 0x34AB00, 0, 7, 0, 0));
+    CHECK(is_mapped(access_number(0xF5, READ, 0x12AB00), 0x34AB00, 0, 7, 0, 0));
+    check_reason(0x12AB, 0x04, 0, 7);          /* the space differs */
+    check_reason(0x12AB, 0xF4, 0, 7);
+    check_reason(0x12AB, 0x00, 0, 7);
+    check_reason(0x13AB, 0x05, MODEL_NONE, 0); /* the range */
+    check_reason(0x13AB, 0x04, MODEL_NONE, 0); /* both */
+    disable(0, 7);
+    check_reason(0x12AB, 0x05, MODEL_NONE, 0); /* disabled, and neither differs */
+    check_reason(0x12AB, 0x04, MODEL_NONE, 0); /* disabled, and the space differs */
+
+    /* a mask without ones: every number matches, so the space never differs; every page does */
+    CHECK(load(0, 7, 0x1200, 0xFF00, 0x3400, 0x05, 0x01, 0x00) == 0x00);
+    check_reason(0x13AB, 0x04, MODEL_NONE, 0);
+    CHECK(load(0, 7, 0x1200, 0x0000, 0x3400, 0x05, 0x01, 0xFF) == 0x00);
+    check_reason(0xFFFF, 0x04, 0, 7);
+    check_reason(0x0000, 0x85, 0, 7);
+}
+
+/* The lowest unit and then the lowest descriptor, of those that are enabled. */
+static void lowest_of_several(void)
+{
+    start(6, MODEL_NONE);
+    CHECK(load(5, 0, 0x4000, 0xF000, 0x0000, 0x01, 0x01, 0xFF) == 0x00);
+    CHECK(load(2, 31, 0x4000, 0xF000, 0x0000, 0x02, 0x01, 0xFF) == 0x00);
+    CHECK(load(2, 30, 0x4500, 0xFF00, 0x0000, 0x03, 0x01, 0xFF) == 0x00);
+    CHECK(load(0, 9, 0x4600, 0xFF00, 0x0000, 0x04, 0x01, 0xFF) == 0x00); /* its range differs below */
+    CHECK(load(0, 8, 0x4600, 0xFF00, 0x0000, 0x07, 0x01, 0xFF) == 0x00); /* both differ */
+    check_reason(0x4512, 0x04, 2, 30);
+    check_reason(0x4412, 0x04, 2, 31);
+    check_reason(0x4612, 0x03, 0, 8);
+    CHECK(is_mapped(access_number(0x01, READ, 0x451200), 0x051200, 5, 0, 0, 0)); /* three have the page */
+    disable(2, 30);
+    check_reason(0x4512, 0x04, 2, 31);
+    disable(2, 31);
+    check_reason(0x4512, 0x04, 5, 0);
+    disable(5, 0);
+    check_reason(0x4512, 0x04, MODEL_NONE, 0);
+
+    /* unit 0, descriptor 0 is a place like any other */
+    start(2, 0);
+    CHECK(load(1, 3, 0x4000, 0xF000, 0x0000, 0x01, 0x01, 0xFF) == 0x00);
+    check_reason(0x4000, 0x02, 0, 0);
+    check_reason(0x0000, 0xFF, 0, 0);
+    disable(0, 0);
+    check_reason(0x4000, 0x02, 1, 3);
+    check_reason(0x0000, 0x00, MODEL_NONE, 0);
+}
+
+/* What is answered, or read otherwise, carries none. */
+static void no_reason(void)
+{
+    start(2, 0); /* descriptor 0 of unit 0 has every page, for number 00 */
+    CHECK(load(1, 5, 0x4000, 0xC000, 0x8000, 0x09, 0x01, 0xFF) == 0x00);
+    for (unsigned i = 0; i < 3; i++)
+        CHECK(is_mapped(access_number(0x09, directions[i], 0x4ABCDE), 0x8ABCDE, 1, 5, 0, 0));
+    ask_for(0x4ABC, 0x09);
+    CHECK(rd(0, DT) == 0x00);
+    wr(1, SSR, 0x03);
+    CHECK(is_mapped(access_number(0x09, READ, 0x4ABCDE), 0x8ABCDE, 1, 5, 1, 0));
+    CHECK(is_violation(access_number(0x09, WRITE, 0x4ABCDE), 1, 5, 0));
+    CHECK(is_violation(access_number(0x09, MODIFY, 0x4ABCDE), 1, 5, 0));
+
+    /* other bytes $FF: a refused load, null operations, a register; rd looks at the place */
+    CHECK(load(0, 6, 0x4000, 0xC000, 0x8000, 0x09, 0x01, 0xFF) == 0xFF);
+    CHECK(rd(0, 0x3C) == 0xFF && rd(0, 0x3E) == 0xFF && rd(1, AC8) == 0xFF);
+    check_reason(0x4ABC, 0x0A, 0, 0);
+}
+
+/* In states that no call leaves: clashing ones, IP without E, units that the count
+ * does not have. */
+static void reasons_unreachable(void)
+{
+    model_descriptor other = {0x0000, 0x0000, 0x0000, 0x33, 0x01, 0xFF};
+    start(2, MODEL_NONE);
+    m.unit[0].d[4] = other;
+    m.unit[0].d[4].ssr = 0x9E; /* all but E */
+    m.unit[2].d[0] = other;    /* at the count */
+    check_reason(0x1234, 0x44, MODEL_NONE, 0);
+    m.unit[1].d[9] = m.unit[1].d[8] = other;
+    check_reason(0x1234, 0x44, 1, 8);
+    m.count = 3;
+    m.unit[1].d[9].ssr = m.unit[1].d[8].ssr = 0x00;
+    check_reason(0x1234, 0x44, 2, 0);
+}
+
+static void why_undefined(void)
+{
+    five_answers();
+    lowest_of_several();
+    no_reason();
+    reasons_unreachable();
 }
 
 static void transfer_marks(void)
@@ -646,7 +807,7 @@ static void direct_translation(void)
     CHECK(m.gsr == 0);                 /* and no fault */
 
     wr(0, AC6, 0x06); /* no match */
-    CHECK(rd(2, DT) == 0xFF);
+    CHECK(names(untranslated(2), 0, 0));
     for (unsigned k = 0; k < 3; k++)
         CHECK(rd(k, LSR) == 0x0E && rd(k, RDP) == 0x80);
     CHECK(rd(2, DP) == 7 && rd(0, DP) == 3 && rd(2, AC4) == 0xBA && m.gsr == 0);
@@ -711,7 +872,7 @@ static void loads(void)
     CHECK(rd(2, AC7) == 0xFE);
     /* it also disables an enabled one */
     CHECK(load(1, 4, 0x1000, 0xF000, 0x0000, 0x01, 0x00, 0xFF) == 0x00);
-    CHECK(is_undefined(access_number(0x01, READ, 0x100000), 0));
+    CHECK(is_near(access_number(0x01, READ, 0x100000), 0, 0, 0));
     /* and with AC7 all ones: bits 5 and 6 alone drop */
     CHECK(load(1, 4, 0x1000, 0xF000, 0x0000, 0x01, 0xFF, 0xFF) == 0x00);
     CHECK(has(1, 4, 0x1000, 0xF000, 0x0000, 0x01, 0x9F, 0xFF));
@@ -765,7 +926,7 @@ static void load_without_gal(void)
     start(2, MODEL_NONE);
     CHECK(rd(1, LOAD) == 0x00 && rd(0, LSR) == 0x06 && rd(1, LSR) == 0x06);
     CHECK(!m.unit[0].mark[4] && !m.unit[0].mark[5] && !m.unit[0].mark[7]);
-    CHECK(rd(1, DT) == 0xFF);
+    CHECK(names_none(untranslated(1)));
 }
 
 static void interrupts(void)
@@ -786,13 +947,13 @@ static void interrupts(void)
     for (unsigned k = 0; k < 2; k++) {
         model_answer a = model_acknowledge(&m, k);
         CHECK(a.refusal == 0 && a.kind == MODEL_BYTE && a.byte == 0x41 && a.irq == 1);
-        CHECK(a.win == 0 && a.unit == 0 && a.descriptor == 0 && a.address == 0);
+        CHECK(a.win == 0 && a.near == 0 && a.unit == 0 && a.descriptor == 0 && a.address == 0);
         CHECK(memcmp(&before, &m, sizeof m) == 0);
     }
 
     CHECK(is_mapped(model_access(&m, 15, READ, 0x2ABCDE), 0x1ABCDE, 1, 1, 0, 1));
     CHECK(rd(1, IDP) == 1); /* the lowest */
-    CHECK(is_undefined(model_access(&m, 15, READ, 0x3ABCDE), 1));
+    CHECK(is_near(model_access(&m, 15, READ, 0x3ABCDE), 1, 0, 0));
     wr(0, GSR, 0x00);
     CHECK(last_irq == 0);
     wr(0, GSR, 0x01);
@@ -885,7 +1046,7 @@ static void map_and_null(void)
         wr(1, 2 * i, (uint8_t)(0x80 + i));
     for (unsigned i = 0; i < 16; i++) {
         CHECK(rd(0, 2 * i) == 0x80 + i && m.table[i] == 0x80 + i);
-        CHECK(is_undefined(model_access(&m, i, READ, 0), 0));
+        CHECK(is_near(model_access(&m, i, READ, 0), 0, 0, 0));
         CHECK(rd(1, AC6) == 0x80 + i); /* each code takes its own entry */
     }
     for (unsigned n = 0; n < 9; n++) {
@@ -1008,7 +1169,7 @@ static void unreachable(void)
     CHECK(rd(1, LOAD) == 0x00);
     CHECK(has(1, 8, 0x3000, 0xFFFF, 0x2000, 0x0A, 0x01, 0xFF));
     CHECK(rd(0, AC0) == 0x10 && rd(1, AC0) == 0x30 && rd(0, LSR) == 0x06);
-    CHECK(rd(0, DT) == 0xFF); /* unit 0 asks for 1000, 09 */
+    CHECK(names(untranslated(0), 0, 0)); /* unit 0 asks for 1000, 09 */
     CHECK(rd(1, DT) == 0x00);
     CHECK(rd(1, AC4) == 0x20 && rd(1, RDP) == 8 && rd(0, AC0) == 0x10);
 
@@ -1117,7 +1278,7 @@ static void random_calls(void)
             unsigned above = rnd() % 4 != 0 ? 0x20 : 0, address = above + rnd() % 0x20;
             a = model_register(&m, unit, address, rnd() % 4, value);
         }
-        CHECK(a.kind < 6);
+        CHECK(a.kind < 6 && a.near <= (a.kind == MODEL_UNDEFINED || (a.kind == MODEL_BYTE && a.byte == 0xFF)));
         kinds[a.kind]++;
         CHECK(good_state());
     }
@@ -1251,6 +1412,7 @@ int main(void)
     violation();
     undefined();
     read_modify_write();
+    why_undefined();
     transfer_marks();
     direct_translation();
     loads();

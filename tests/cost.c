@@ -15,8 +15,9 @@
 static uint8_t block[LAYOUT_BYTES], image[IMAGE_LONGEST];
 static model m;
 
-static const uint64_t code = 1;
-static const uint8_t space = 0x01;
+/* A code and the number that it has; the other number is of every other code. */
+static const uint64_t code = 1, other_code = 2;
+static const uint8_t space = 0x01, other_space = 0x00;
 
 /* Each descriptor has 256 pages of its own, by the high byte of the page. */
 static unsigned last_segment(unsigned units)
@@ -110,37 +111,69 @@ static void protect(unsigned units)
     set(units - 1, CLEFTROMI_SSR, CLEFTROMI_SSR_E | CLEFTROMI_SSR_WP);
 }
 
-/* The call, and the answer that it must have.  What is to be set up first is set
- * up in both states, and falls out of the difference of two runs. */
-static call operation(const char *name, unsigned units, model_answer *wanted)
+static bool is(const char *name, const char *other)
+{
+    return strcmp(name, other) == 0;
+}
+
+/* An answer with the last descriptor of the last unit. */
+static model_answer by_last(unsigned kind, unsigned units)
+{
+    model_answer a = {.kind = kind, .unit = units - 1, .descriptor = 31};
+    return a;
+}
+
+/* To the pages of the last descriptor, or to some that none has. */
+static call bus_access(const char *name, unsigned units, model_answer *wanted)
 {
     call c = {CALL_ACCESS, {code, CLEFTROMI_READ, (uint64_t)last_segment(units) << 16 | 0x1234}, 0};
-    model_answer mapped = {0, MODEL_MAPPED, 0, 0, units - 1, 31, 0, (last_segment(units) ^ 0xFF) << 16 | 0x1234};
-    model_answer violation = {0, MODEL_VIOLATION, 0, 1, units - 1, 31, 0, 0};
-    model_answer plain = {0, 0, 0, 0, 0, 0, 0, 0};
-    *wanted = plain;
+    model_answer undefined = {.kind = MODEL_UNDEFINED};
     if (strncmp(name, "modify", strlen("modify")) == 0)
         c.number[1] = CLEFTROMI_MODIFY;
-    if (strcmp(name, "access") == 0 || strcmp(name, "modify") == 0) {
-        *wanted = mapped;
-    } else if (strcmp(name, "undefined") == 0 || strcmp(name, "modify-undefined") == 0) {
+    if (is(name, "access") || is(name, "modify")) {
+        *wanted = by_last(MODEL_MAPPED, units);
+        wanted->address = (last_segment(units) ^ 0xFF) << 16 | 0x1234;
+    } else if (is(name, "undefined") || is(name, "modify-undefined")) {
         c.number[2] = 0xFFFFFF;
-        wanted->kind = MODEL_UNDEFINED;
-    } else if (strcmp(name, "modify-protected") == 0) {
+        *wanted = undefined;
+    } else if (is(name, "near")) {
+        c.number[0] = other_code;
+        *wanted = by_last(MODEL_UNDEFINED, units);
+        wanted->near = 1;
+    } else if (is(name, "modify-protected")) {
         protect(units);
-        *wanted = violation;
-    } else if (strcmp(name, "write") == 0) {
-        call write = {CALL_REGISTER, {0, CLEFTROMI_IVR, CLEFTROMI_WRITE}, 0x40};
-        c = write;
-        wanted->kind = MODEL_DONE;
-    } else if (strcmp(name, "load") == 0) {
-        call load = {CALL_REGISTER, {units - 1, CLEFTROMI_LOAD, CLEFTROMI_READ}, 0};
-        c = load;
-        wanted->kind = MODEL_BYTE; /* $00: granted */
+        *wanted = by_last(MODEL_VIOLATION, units);
+        wanted->win = 1;
     } else {
         fail("there is no such operation");
     }
     return c;
+}
+
+/* The call, and the answer that it must have.  What is to be set up first is set
+ * up in both states, and falls out of the difference of two runs. */
+static call operation(const char *name, unsigned units, model_answer *wanted)
+{
+    call write = {CALL_REGISTER, {0, CLEFTROMI_IVR, CLEFTROMI_WRITE}, 0x40};
+    call load = {CALL_REGISTER, {units - 1, CLEFTROMI_LOAD, CLEFTROMI_READ}, 0};
+    call translate = {CALL_REGISTER, {units - 1, CLEFTROMI_TRANSLATE, CLEFTROMI_READ}, 0};
+    model_answer done = {.kind = MODEL_DONE}, granted = {.kind = MODEL_BYTE, .byte = 0x00};
+    if (is(name, "write")) {
+        *wanted = done;
+        return write;
+    }
+    if (is(name, "load")) {
+        *wanted = granted;
+        return load;
+    }
+    if (is(name, "translate-near")) {
+        set(0, CLEFTROMI_AC6, other_space);
+        *wanted = by_last(MODEL_BYTE, units);
+        wanted->near = 1;
+        wanted->byte = 0xFF;
+        return translate;
+    }
+    return bus_access(name, units, wanted);
 }
 
 /* The two loops are alike, so that what they cost themselves is about equal. */
@@ -154,7 +187,7 @@ static uint64_t call_ours(call c, long calls)
 
 static uint64_t call_plain(call c, long calls)
 {
-    model_answer answer = {0, 0, 0, 0, 0, 0, 0, 0};
+    model_answer answer = {.kind = 0};
     for (long i = 0; i < calls; i++)
         answer = call_model(c, &m);
     return layout_answer(answer);
@@ -172,7 +205,7 @@ static uint64_t image_ours(bool saves, size_t length, long calls)
 
 static uint64_t image_plain(bool saves, size_t length, long calls)
 {
-    model_answer answer = {0, 0, 0, 0, 0, 0, 0, 0};
+    model_answer answer = {.kind = 0};
     for (long i = 0; i < calls; i++)
         answer = saves ? model_save(&m, image, length) : model_restore(&m, image, length);
     return layout_answer(answer);
@@ -180,9 +213,9 @@ static uint64_t image_plain(bool saves, size_t length, long calls)
 
 static uint64_t answer_to(bool ours, const char *name, long calls, model_answer *wanted)
 {
-    static const model_answer done = {0, MODEL_DONE, 0, 0, 0, 0, 0, 0};
-    bool saves = strcmp(name, "save") == 0;
-    if (saves || strcmp(name, "restore") == 0) {
+    static const model_answer done = {.kind = MODEL_DONE};
+    bool saves = is(name, "save");
+    if (saves || is(name, "restore")) {
         size_t length = CLEFTROMI_IMAGE_BYTES(m.count);
         *wanted = done;
         return ours ? image_ours(saves, length, calls) : image_plain(saves, length, calls);

@@ -32,13 +32,19 @@
  *  13  a restore that is granted leaves the state that the image has, and a save
  *      then gives the image's bytes;
  *  14  a save is refused with 10 exactly when restoring the image that would be
- *      written is.
+ *      written is;
+ *  15  an access is undefined, and a direct translation finds nothing, exactly when
+ *      no enabled descriptor matches.  Such an answer names the lowest unit, and of
+ *      that unit the lowest descriptor, that is enabled, has a range match and no
+ *      space match, and it names none exactly when there is none (document 02, P4);
+ *  16  no other answer names a descriptor so, and none has a field beside those of
+ *      its kind, with IRQ as the block has it.
  *
- * 2, 3 and 5 to 14 are said of every block, and so is 4 but for the marks: they
+ * 2, 3 and 5 to 16 are said of every block, and so is 4 but for the marks: they
  * are checked on noise too, random bytes in which descriptors clash.
  *
- * Nothing is compared with the model.  Only mix, which plans the calls, sees
- * the block as a state of the model. */
+ * Nothing is compared with the model.  Only mix, which plans the calls, and the
+ * counts of what was seen see the block as a state of the model. */
 #include <inttypes.h>
 #include <stdio.h>
 #include <stdlib.h>
@@ -48,6 +54,7 @@
 #include "layout.h"
 #include "mix.h"
 #include "pair.h"
+#include "reasons.h"
 
 #define BLOCK 4096u
 #define ROOM 4800u
@@ -193,6 +200,9 @@ static unsigned long accesses[2][CYCLES][ANSWERS][STOOD];
 
 static unsigned long refused_modify[8]; /* read-modify-writes, by the refusal */
 
+static reasons why[2]; /* in noise, and in reached blocks */
+static unsigned long beyond; /* undefined in noise, where only units above the count have one to name */
+
 /* Prints a count.  One that is zero is missing, the last of them is kept. */
 static void print_count(unsigned long count, const char *name, const char *after, const char **missing)
 {
@@ -236,9 +246,20 @@ static void report_refused(const char **missing)
             print_count(refused_modify[i], names[i], i < 7 ? ", " : "\n", missing);
 }
 
+static void report_reasons(const char **missing)
+{
+    for (unsigned where = 0; where < 2; where++) {
+        const char *seldom = reasons_report(&why[where], where ? " in reached blocks" : " in noise", 1);
+        if (seldom != NULL)
+            *missing = seldom;
+    }
+    print_count(beyond, "undefined where units above the count alone have one to name", "\n", missing);
+}
+
 static int report(void)
 {
     const char *missing = NULL;
+    report_reasons(&missing);
     report_events(&missing);
     report_accesses(&missing);
     report_refused(&missing);
@@ -277,6 +298,14 @@ static void must(bool good, const char *sentence)
 #define LSR 12u
 #define RDP 13u
 #define SSR 7u
+
+/* For what is planned and counted. */
+static const model *as_state(const uint8_t *block)
+{
+    static model m;
+    layout_decode(block, &m);
+    return &m;
+}
 
 static const uint8_t *unit_at(const uint8_t *block, unsigned m)
 {
@@ -481,6 +510,11 @@ static uint64_t answer_on_copy(call c, const uint8_t *block)
     return call_library(c, copy, BLOCK);
 }
 
+static unsigned place_named(uint64_t answer)
+{
+    return 32 * cleftromi_unit(answer) + cleftromi_descriptor(answer);
+}
+
 /* IRQ alone may differ: a load may bring IP. */
 static bool same_but_irq(call c, uint64_t was, uint64_t is)
 {
@@ -508,8 +542,7 @@ static bool access_kept(call c, const uint8_t *old, const uint8_t *block, unsign
     }
     must(kind == CLEFTROMI_UNDEFINED, "an access in range has no answer of its own");
     if (cleftromi_kind(is) != CLEFTROMI_UNDEFINED) {
-        must(32 * cleftromi_unit(is) + cleftromi_descriptor(is) == place,
-             "a load gives an access an answer that is not by the descriptor loaded");
+        must(place_named(is) == place, "a load gives an access an answer that is not by the descriptor loaded");
         note(SEEN_GIVEN, true);
     }
     return false;
@@ -525,6 +558,73 @@ static bool load_harmless(const uint8_t *old, const uint8_t *block, segment want
             hit = true;
     }
     return hit;
+}
+
+/* ------------------------------------------------------------------ */
+/* Sentences 15 and 16                                                 */
+/* ------------------------------------------------------------------ */
+
+static bool space_alone_differs(const uint8_t *block, unsigned place, unsigned page, unsigned number)
+{
+    segment s = segment_at(block, place);
+    return enabled(block, place) && agrees(page, s.page, s.page_mask) && !agrees(number, s.number, s.number_mask);
+}
+
+/* The first from "from" up to "end", by unit and then by descriptor; the end if
+ * there is none. */
+static unsigned first_near(const uint8_t *block, unsigned page, unsigned number, unsigned from, unsigned end)
+{
+    while (from < end && !space_alone_differs(block, from, page, number))
+        from++;
+    return from;
+}
+
+/* "answer" is for want of a match. */
+static void reason_given(const uint8_t *old, unsigned page, unsigned number, uint64_t answer)
+{
+    const unsigned end = places(old), all = 32 * UNITS, due = first_near(old, page, number, 0, end);
+    if (due == end) {
+        must(cleftromi_near(answer) == 0, "an answer names a descriptor, and in none the space alone differs");
+        must(place_named(answer) == 0, "an answer names no descriptor, and has a unit or a descriptor");
+        beyond += first_near(old, page, number, end, all) != all;
+        return;
+    }
+    must(cleftromi_near(answer) == 1, "an answer names none of the descriptors in which the space alone differs");
+    must(place_named(answer) == due, "an answer names another than the lowest in which the space alone differs");
+}
+
+#define IRQ_BIT ((uint64_t)1 << 12)
+#define WIN_BIT ((uint64_t)1 << 13)
+#define NEAR_BIT ((uint64_t)1 << 14)
+#define PLACE_BITS ((uint64_t)0xFF << 16)
+#define BYTE_BITS ((uint64_t)0xFF << 24)
+#define ADDRESS_BITS ((uint64_t)0xFFFFFF << 32)
+
+/* The header's table, "Which kind has which field". */
+static uint64_t fields_of(unsigned kind, bool translation)
+{
+    switch (kind) {
+    case CLEFTROMI_BYTE:
+        return BYTE_BITS | (translation ? NEAR_BIT | PLACE_BITS : 0);
+    case CLEFTROMI_MAPPED:
+        return WIN_BIT | PLACE_BITS | ADDRESS_BITS;
+    case CLEFTROMI_VIOLATION:
+        return WIN_BIT | PLACE_BITS;
+    case CLEFTROMI_UNDEFINED:
+        return NEAR_BIT | PLACE_BITS;
+    default:
+        return 0;
+    }
+}
+
+/* "translation" says whether the answer is that of a direct translation without a
+ * match. */
+static void own_fields(const uint8_t *block, uint64_t answer, bool translation)
+{
+    unsigned kind = cleftromi_kind(answer);
+    uint64_t rest = answer & ~fields_of(kind, translation);
+    must((rest & NEAR_BIT) == 0, "an answer names a descriptor in which the space alone differs, and must not");
+    must(rest == ((uint64_t)kind << 8 | (irq(block) ? IRQ_BIT : 0)), "an answer has a field that is not its kind's");
 }
 
 /* ------------------------------------------------------------------ */
@@ -648,6 +748,11 @@ static void translation_leaves(const uint8_t *old, const uint8_t *block, uint64_
     must(cleftromi_byte(answer) == (e.row == TRANSLATED ? 0x00 : 0xFF),
          "a direct translation says that it found something, and has not, or the other way");
     event_left(e, old, block);
+    reasons_note(&why[reached], as_state(old), now);
+    if (e.row == TRANSLATED)
+        return;
+    segment asked = segment_wanted(unit_at(old, (unsigned)now.number[0]));
+    reason_given(old, asked.page, asked.number, answer);
 }
 
 /* ------------------------------------------------------------------ */
@@ -748,7 +853,7 @@ static void read_and_write(const uint8_t *old, const uint8_t *block, uint64_t an
 }
 
 /* ------------------------------------------------------------------ */
-/* An access: sentences 7 to 11                                        */
+/* An access: sentences 7 to 11, and 15                                */
 /* ------------------------------------------------------------------ */
 
 static unsigned cycle_of(uint64_t direction)
@@ -773,11 +878,13 @@ static void access_leaves(const uint8_t *old, const uint8_t *block, uint64_t ans
     };
     unsigned page = (unsigned)(now.number[2] >> 8), number = old[16 + now.number[0]];
     unsigned place = first_match(old, 0, page, number);
-    unsigned named = 32 * cleftromi_unit(answer) + cleftromi_descriptor(answer);
     unsigned cycle = cycle_of(now.number[1]), due = answer_due(old, cycle, place);
 
     note_access(old, cycle, due, place);
-    must(cleftromi_kind(answer) == kinds[due] && (due == UNDEFINED || named == place), wrong[due]);
+    reasons_note(&why[reached], as_state(old), now);
+    must(cleftromi_kind(answer) == kinds[due] && (due == UNDEFINED || place_named(answer) == place), wrong[due]);
+    if (due == UNDEFINED)
+        reason_given(old, page, number, answer);
     status_left(old, block, place, sets[cycle][due]);
     counted_once(old, block, due != MAPPED);
     if (due != MAPPED) {
@@ -1082,11 +1189,13 @@ static void make(call c)
     if (due != 0)
         return;
     no_stray_bit(block);
+    bool translation = is_read(c, CLEFTROMI_TRANSLATE);
+    own_fields(block, answer, translation && cleftromi_byte(answer) == 0xFF);
     if (is_start(c))
         reached = true;
     if (is_load(c)) /* first, for else a load that must not be granted is seen by what it leaves */
         load_exactly(old, block, answer);
-    if (is_read(c, CLEFTROMI_TRANSLATE))
+    if (translation)
         translation_leaves(old, block, answer);
     if (c.name == CALL_ACCESS)
         access_leaves(old, block, answer);
@@ -1226,13 +1335,6 @@ static void some_restore(void)
 /* Histories                                                           */
 /* ------------------------------------------------------------------ */
 
-static const model *planned(void)
-{
-    static model m;
-    layout_decode(room + at, &m);
-    return &m;
-}
-
 /* Puts the numbers of some segments into the table, by calls: sentence 3 has
  * accesses that hit something before the load only if the table lets them. */
 static void aim_table(const uint8_t *block, segment wanted)
@@ -1283,13 +1385,13 @@ static void next(void)
     else if (mix_below(&calls, 3) == 0)
         load_neighbour();
     else
-        step(mix_next(&calls, planned()));
+        step(mix_next(&calls, as_state(room + at)));
 }
 
 /* Half of these with a number out of range, or at least another one. */
 static call on_noise(void)
 {
-    call c = mix_below(&calls, 3) ? mix_single(&calls, planned()) : aimed_access(room + at, everything);
+    call c = mix_below(&calls, 3) ? mix_single(&calls, as_state(room + at)) : aimed_access(room + at, everything);
     if (mix_below(&calls, 2)) {
         unsigned i = mix_below(&calls, 3);
         c.number[i] = (uint64_t)1 << mix_below(&calls, 64);
@@ -1337,25 +1439,31 @@ static void thin_out(uint8_t *block)
             block[128 + 9 * i + SSR] &= (uint8_t)~CLEFTROMI_SSR_E;
 }
 
-/* A load or a direct translation of some unit.  In noise its accumulator may be
- * written here: it asks for what stands, or for anything, and mostly for E. */
+/* In noise the accumulator of a unit may be written here. */
+static void ask_for(uint8_t *unit, unsigned page, unsigned number)
+{
+    unit[0] = (uint8_t)(page >> 8);
+    unit[1] = (uint8_t)page;
+    unit[6] = (uint8_t)number;
+}
+
+/* A load or a direct translation of some unit: it asks for what stands, or for
+ * anything, and mostly for E. */
 static call operation_on_noise(uint8_t *block)
 {
     unsigned m = mix_below(&calls, block[0]), address = mix_below(&calls, 2) ? CLEFTROMI_LOAD : CLEFTROMI_TRANSLATE;
-    uint8_t *ac = block + 32 + 16 * m;
+    uint8_t *unit = block + 32 + 16 * m;
     segment s = mix_below(&calls, 3) ? some_segment(block) : everything;
     unsigned page = page_under(s);
-    ac[0] = (uint8_t)(page >> 8);
-    ac[1] = (uint8_t)page;
-    ac[6] = (uint8_t)number_under(s);
+    ask_for(unit, page, number_under(s));
     if (mix_below(&calls, 8) != 0)
-        ac[AC7] |= CLEFTROMI_SSR_E;
+        unit[AC7] |= CLEFTROMI_SSR_E;
     call c = {CALL_REGISTER, {m, address, CLEFTROMI_READ}, 0};
     return c;
 }
 
-/* Events in blocks that no history reaches: random bytes, with a count of 1 to 6. */
-static void events_in_noise(void)
+/* Random bytes, with a count of 1 to 6. */
+static uint8_t *board_of_noise(void)
 {
     noise_block();
     uint8_t *block = room + at;
@@ -1364,10 +1472,36 @@ static void events_in_noise(void)
         widen(block);
     if (mix_below(&calls, 2))
         thin_out(block);
+    return block;
+}
+
+/* Events in blocks that no history reaches. */
+static void events_in_noise(void)
+{
+    uint8_t *block = board_of_noise();
     for (unsigned n = 1 + mix_below(&calls, 4); n > 0; n--) {
         segment s = mix_below(&calls, 4) ? some_segment(block) : everything;
         make(mix_below(&calls, 3) ? operation_on_noise(block) : aimed_access(block, s));
     }
+}
+
+/* A page of some descriptor, which is often the first of all and mostly enabled, for
+ * a number that is not its own: by an access, or by a direct translation. */
+static void reasons_in_noise(void)
+{
+    uint8_t *block = board_of_noise();
+    unsigned place = mix_below(&calls, 3) ? mix_below(&calls, places(block)) : 0, m = mix_below(&calls, block[0]);
+    const model_descriptor *d = &as_state(block)->unit[place / 32].d[place % 32];
+    unsigned page = mix_page(&calls, d);
+    uint8_t number = mix_other_number(&calls, d);
+    if (mix_below(&calls, 4))
+        block[128 + 9 * place + SSR] |= CLEFTROMI_SSR_E;
+    call access = {CALL_ACCESS, {mix_below(&calls, 16), 0, (uint64_t)page << 8}, 0};
+    call translation = {CALL_REGISTER, {m, CLEFTROMI_TRANSLATE, CLEFTROMI_READ}, 0};
+    access.number[1] = mix_direction(&calls);
+    memset(block + 16, number, 16);
+    ask_for(block + 32 + 16 * m, page, number);
+    make(mix_below(&calls, 3) ? access : translation);
 }
 
 /* Few enabled and no marks, in some, so that there is something to save. */
@@ -1426,6 +1560,8 @@ int main(int argc, char **argv)
             next();
         for (unsigned n = 0; n < NOISES; n++)
             events_in_noise();
+        for (unsigned n = 0; n < NOISES; n++)
+            reasons_in_noise();
         for (unsigned n = 0; n < NOISES / 3; n++)
             images_in_noise();
     }

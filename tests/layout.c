@@ -119,7 +119,7 @@ void layout_decode(const uint8_t *block, model *m)
 
 uint64_t layout_answer(model_answer a)
 {
-    uint64_t low = a.refusal + 256u * a.kind + 4096u * a.irq + 8192u * a.win;
+    uint64_t low = a.refusal + 256u * a.kind + 4096u * a.irq + 8192u * a.win + 16384u * a.near;
     uint64_t high = a.unit + 8u * a.descriptor + 256u * a.byte;
     return low + (high << 16) + ((uint64_t)a.address << 32);
 }

@@ -120,6 +120,15 @@ model_answer line_call(line l, model *m)
 /* An answer                                                           */
 /* ------------------------------------------------------------------ */
 
+/* P4: unit and descriptor after U's IRQ. */
+static void undefined_answer(char *out, model_answer a)
+{
+    if (a.near)
+        sprintf(out, "U %u %u %02X\n", a.irq, a.unit, a.descriptor);
+    else
+        sprintf(out, "U %u - --\n", a.irq);
+}
+
 size_t line_answer(char *out, model_answer a)
 {
     switch (a.kind) {
@@ -136,7 +145,7 @@ size_t line_answer(char *out, model_answer a)
         sprintf(out, "V %u %02X %u %u\n", a.unit, a.descriptor, a.win, a.irq);
         break;
     case MODEL_UNDEFINED:
-        sprintf(out, "U %u\n", a.irq);
+        undefined_answer(out, a);
         break;
     default:
         sprintf(out, "no %u\n", a.refusal);

@@ -1,5 +1,5 @@
-/* The bench's lines, over the model: document 01, "The bench program", the M of
- * document 02's P1, and ruling 11.  Written from the papers alone, as the model is. */
+/* The bench's lines, over the model: document 01, "The bench program", of document
+ * 02 the M of P1 and the reason of P4, and ruling 11.  Written from the papers alone, as the model is. */
 #ifndef LINES_H
 #define LINES_H
 

@@ -79,6 +79,14 @@ const model_descriptor *mix_enabled(mix *x, const model *m, unsigned *unit, unsi
     return with_status(x, m, CLEFTROMI_SSR_E, unit, number);
 }
 
+const model_descriptor *mix_often_first(mix *x, const model *m, unsigned *unit, unsigned *number)
+{
+    if (!one_in(x, 6) || (m->unit[0].d[0].ssr & CLEFTROMI_SSR_E) == 0)
+        return mix_enabled(x, m, unit, number);
+    *unit = *number = 0;
+    return &m->unit[0].d[0];
+}
+
 uint16_t mix_page(mix *x, const model_descriptor *d)
 {
     return (uint16_t)((d->lba & d->lam) | (any_word(x) & ~(unsigned)d->lam));
@@ -87,6 +95,16 @@ uint16_t mix_page(mix *x, const model_descriptor *d)
 uint8_t mix_number(mix *x, const model_descriptor *d)
 {
     return (uint8_t)((d->asn & d->asm_) | (any_byte(x) & ~(unsigned)d->asm_));
+}
+
+uint8_t mix_other_number(mix *x, const model_descriptor *d)
+{
+    uint8_t number = mix_number(x, d);
+    unsigned from = mix_below(x, 8);
+    for (unsigned i = from; i < from + 8; i++)
+        if ((d->asm_ >> i % 8 & 1) != 0)
+            return (uint8_t)(number ^ 1u << i % 8);
+    return number;
 }
 
 /* ------------------------------------------------------------------ */
@@ -230,10 +248,24 @@ static model_descriptor neighbour(mix *x, const model *m)
     return d;
 }
 
+/* The pages of an enabled one for another number: for a third number there is
+ * then more than one that has the page. */
+static model_descriptor sharing(mix *x, const model *m)
+{
+    unsigned unit, number;
+    const model_descriptor *with = mix_enabled(x, m, &unit, &number);
+    if (with == NULL)
+        return small_segment(x);
+    model_descriptor d = *with;
+    d.asn = mix_other_number(x, with);
+    d.asm_ = 0xFF;
+    return d;
+}
+
 static model_descriptor wanted_segment(mix *x, const model *m)
 {
     model_descriptor d;
-    switch (mix_below(x, 8)) {
+    switch (mix_below(x, 10)) {
     case 0:
         d = large_segment(x);
         break;
@@ -243,6 +275,10 @@ static model_descriptor wanted_segment(mix *x, const model *m)
     case 2:
     case 3:
         d = neighbour(x, m);
+        break;
+    case 4:
+    case 5:
+        d = sharing(x, m);
         break;
     default:
         d = small_segment(x);
@@ -448,15 +484,9 @@ static void half_accumulator(mix *x, const model *m)
     put_read_anywhere(x, m, operations[mix_below(x, sizeof operations)]);
 }
 
-static void translate(mix *x, const model *m)
+/* Mostly of this page and number. */
+static void put_translation(mix *x, const model *m, unsigned page, uint8_t space)
 {
-    unsigned unit, number, page = any_word(x);
-    uint8_t space = any_byte(x);
-    const model_descriptor *d = mix_enabled(x, m, &unit, &number);
-    if (d != NULL && !one_in(x, 4)) {
-        page = mix_page(x, d);
-        space = mix_number(x, d);
-    }
     if (one_in(x, 4))
         put_read_anywhere(x, m, CLEFTROMI_SSR); /* takes GAT from one unit */
     if (!one_in(x, 10))
@@ -466,6 +496,47 @@ static void translate(mix *x, const model *m)
     if (!one_in(x, 10))
         put_write_anywhere(x, m, CLEFTROMI_AC6, space);
     put_read_anywhere(x, m, CLEFTROMI_TRANSLATE);
+}
+
+static void translate(mix *x, const model *m)
+{
+    unsigned unit, number, page = any_word(x);
+    uint8_t space = any_byte(x);
+    const model_descriptor *d = mix_enabled(x, m, &unit, &number);
+    if (d != NULL && !one_in(x, 4)) {
+        page = mix_page(x, d);
+        space = mix_number(x, d);
+    }
+    put_translation(x, m, page, space);
+}
+
+/* Disabled, it has its pages all the same. */
+static void put_disable(mix *x, const model_descriptor *d, unsigned unit, unsigned number)
+{
+    put_write(x, unit, CLEFTROMI_DP, (uint8_t)number);
+    put_write(x, unit, CLEFTROMI_SSR, d->ssr & (uint8_t)~CLEFTROMI_SSR_E);
+}
+
+/* A page of a segment for a number that is not the segment's: undefined, unless
+ * another has that. */
+static void other_space(mix *x, const model *m)
+{
+    unsigned unit, number, code = mix_below(x, 16);
+    const model_descriptor *d = mix_often_first(x, m, &unit, &number);
+    if (d == NULL) {
+        access_anything(x, m);
+        return;
+    }
+    unsigned page = mix_page(x, d);
+    uint8_t space = mix_other_number(x, d);
+    if (one_in(x, 6))
+        put_disable(x, d, unit, number);
+    if (one_in(x, 3)) {
+        put_translation(x, m, page, space);
+        return;
+    }
+    put_write_anywhere(x, m, CLEFTROMI_AST(code), space);
+    put_access(x, code, mix_direction(x), page);
 }
 
 static void read_register(mix *x, const model *m)
@@ -580,12 +651,13 @@ static void bad_call(mix *x, const model *m)
 /* Mixtures                                                            */
 /* ------------------------------------------------------------------ */
 
-#define SEQUENCES 19u
+#define SEQUENCES 20u
 
 static void (*const sequences[SEQUENCES])(mix *, const model *) = {
     fill,         load_segment, reload,           access_segment, access_anything, fault,
     interrupt,    status_write, transfer,         translate,      read_register,   write_register,
-    write_status, acknowledge,  half_accumulator, null_operation, restart,         bad_call,       modify,
+    write_status, acknowledge,  half_accumulator, null_operation, restart,         bad_call,
+    modify,       other_space,
 };
 
 #define MODES 8u
@@ -593,14 +665,14 @@ static void (*const sequences[SEQUENCES])(mix *, const model *) = {
 
 /* How often each sequence comes, in the order above. */
 static const uint8_t weights[MODES][SEQUENCES] = {
-    {80, 4, 2, 30, 2, 1, 1, 0, 0, 4, 2, 0, 1, 1, 0, 1, 0, 1, 2},       /* fills the units */
-    {5, 40, 20, 20, 2, 4, 2, 4, 2, 2, 2, 2, 2, 1, 4, 1, 0, 4, 2},      /* loads and reloads */
-    {5, 10, 2, 20, 10, 40, 2, 4, 2, 2, 8, 1, 6, 1, 2, 1, 0, 4, 20},    /* faults */
-    {5, 10, 2, 20, 2, 4, 40, 10, 2, 2, 4, 1, 6, 10, 1, 1, 0, 4, 20},   /* interrupts */
-    {5, 10, 10, 5, 5, 10, 1, 2, 20, 20, 6, 2, 1, 1, 40, 1, 0, 4, 2},   /* half accumulators */
-    {5, 20, 2, 10, 2, 4, 2, 2, 10, 40, 8, 1, 1, 1, 4, 1, 0, 4, 2},     /* direct translation */
-    {5, 10, 5, 10, 10, 5, 5, 10, 5, 5, 30, 30, 5, 5, 5, 10, 1, 10, 10}, /* anything */
-    {1, 5, 1, 5, 5, 2, 2, 2, 2, 2, 2, 2, 2, 5, 2, 5, 2, 150, 5},       /* bad numbers */
+    {80, 4, 2, 30, 2, 1, 1, 0, 0, 4, 2, 0, 1, 1, 0, 1, 0, 1, 2, 10},        /* fills the units */
+    {5, 40, 20, 20, 2, 4, 2, 4, 2, 2, 2, 2, 2, 1, 4, 1, 0, 4, 2, 20},       /* loads and reloads */
+    {5, 10, 2, 20, 10, 40, 2, 4, 2, 2, 8, 1, 6, 1, 2, 1, 0, 4, 20, 30},     /* faults */
+    {5, 10, 2, 20, 2, 4, 40, 10, 2, 2, 4, 1, 6, 10, 1, 1, 0, 4, 20, 10},    /* interrupts */
+    {5, 10, 10, 5, 5, 10, 1, 2, 20, 20, 6, 2, 1, 1, 40, 1, 0, 4, 2, 10},    /* half accumulators */
+    {5, 20, 2, 10, 2, 4, 2, 2, 10, 40, 8, 1, 1, 1, 4, 1, 0, 4, 2, 20},      /* direct translation */
+    {5, 10, 5, 10, 10, 5, 5, 10, 5, 5, 30, 30, 5, 5, 5, 10, 1, 10, 10, 20}, /* anything */
+    {1, 5, 1, 5, 5, 2, 2, 2, 2, 2, 2, 2, 2, 5, 2, 5, 2, 150, 5, 2},         /* bad numbers */
 };
 
 static unsigned weighted(mix *x, const uint8_t *row)

@@ -29,8 +29,14 @@ uint64_t mix_direction(mix *x);
 uint16_t mix_page(mix *x, const model_descriptor *d);
 uint8_t mix_number(mix *x, const model_descriptor *d);
 
+/* A number that it does not match; any where it matches all. */
+uint8_t mix_other_number(mix *x, const model_descriptor *d);
+
 /* Some enabled descriptor and its unit, or NULL. */
 const model_descriptor *mix_enabled(mix *x, const model *m, unsigned *unit, unsigned *number);
+
+/* The same, and often descriptor 0 of unit 0, which is a place like any other. */
+const model_descriptor *mix_often_first(mix *x, const model *m, unsigned *unit, unsigned *number);
 
 /* The next call.  Calls come in short sequences (fill the accumulator, set DP,
  * load), planned by the state that the model is in when a sequence begins. */

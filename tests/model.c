@@ -67,10 +67,17 @@ static bool space_match(const model_descriptor *d, uint8_t number)
 }
 
 /* 4.5.3.2: "An address match occurs if there is a range match and a space
- * match"; 3.1.6: only an enabled segment takes part. */
-static bool address_match(const model_descriptor *d, uint16_t page, uint8_t number)
+ * match"; 3.1.6: only an enabled segment takes part.  Where there is none, why
+ * not (P4); "disabled" decides before the other three (ruling 16). */
+typedef enum { MATCHES, DISABLED, RANGE_DIFFERS, SPACE_DIFFERS, BOTH_DIFFER } match_answer;
+
+static match_answer address_match(const model_descriptor *d, uint16_t page, uint8_t number)
 {
-    return enabled(d) && range_match(d, page) && space_match(d, number);
+    if (!enabled(d))
+        return DISABLED;
+    if (range_match(d, page))
+        return space_match(d, number) ? MATCHES : SPACE_DIFFERS;
+    return space_match(d, number) ? RANGE_DIFFERS : BOTH_DIFFER;
 }
 
 /* 3.1.3: the page's bit where LAM has a zero, PBA's bit where it has a one. */
@@ -110,17 +117,31 @@ static bool clash(const model_descriptor *a, const model_descriptor *b)
     return true;
 }
 
-/* 01, ruling 6: the lowest unit and then the lowest descriptor answers. */
-static bool search(const model *m, uint16_t page, uint8_t number, unsigned *unit, unsigned *descriptor)
+/* What a search of all units gives: the place that matches, or the one whose
+ * space alone differs, or neither; then the place is zero. */
+typedef struct {
+    bool matches, near;
+    unsigned unit, descriptor;
+} found;
+
+/* 01, rulings 6 and 16: the lowest unit and then the lowest descriptor answers;
+ * and where nothing matches, P4 names the lowest whose space alone differs. */
+static found search(const model *m, uint16_t page, uint8_t number)
 {
+    found best = {false, false, 0, 0};
     for (unsigned k = 0; k < m->count; k++)
-        for (unsigned e = 0; e < DESCRIPTORS; e++)
-            if (address_match(&m->unit[k].d[e], page, number)) {
-                *unit = k;
-                *descriptor = e;
-                return true;
+        for (unsigned e = 0; e < DESCRIPTORS; e++) {
+            match_answer is = address_match(&m->unit[k].d[e], page, number);
+            if (is == MATCHES) {
+                found match = {true, false, k, e};
+                return match;
             }
-    return false;
+            if (is == SPACE_DIFFERS && !best.near) {
+                found near = {false, true, k, e};
+                best = near;
+            }
+        }
+    return best;
 }
 
 /* ------------------------------------------------------------------ */
@@ -306,6 +327,15 @@ static model_answer byte_answer(const model *m, uint8_t byte)
     return a;
 }
 
+/* P4, ruling 16: an answer for want of a match passes the reason on. */
+static model_answer with_reason(model_answer a, found at)
+{
+    a.near = at.near ? 1 : 0;
+    a.unit = at.unit;
+    a.descriptor = at.descriptor;
+    return a;
+}
+
 static bool bad_count(uint64_t count)
 {
     return count == 0 || count > UNITS;
@@ -382,14 +412,14 @@ static void fault(model *m, bool write)
 }
 
 /* 4.5.3.7 */
-static model_answer undefined_segment_access(model *m, bool write, uint16_t page, uint8_t number)
+static model_answer undefined_segment_access(model *m, bool write, uint16_t page, uint8_t number, found at)
 {
     fault(m, write);
     for (unsigned k = 0; k < m->count; k++) {
         latch(&m->unit[k], page, number);
         event(&m->unit[k], L_USA, NO_DESCRIPTOR);
     }
-    return answer(m, MODEL_UNDEFINED);
+    return with_reason(answer(m, MODEL_UNDEFINED), at);
 }
 
 /* 4.5.3.3 in the matching unit, 4.5.3.6 in the others.  U, M and IP stay.  The
@@ -462,15 +492,15 @@ model_answer model_access(model *m, uint64_t function_code, uint64_t direction, 
     cycle kind = cycle_of(direction);
     uint16_t page = (uint16_t)(address >> 8);
     uint8_t number = m->table[function_code]; /* 2.17, 3.2.1 */
-    unsigned unit, descriptor;
-    if (!search(m, page, number, &unit, &descriptor)) /* R/W is still high in a read-modify-write */
-        return undefined_segment_access(m, kind == WRITE, page, number);
-    model_descriptor *d = &m->unit[unit].d[descriptor];
+    found at = search(m, page, number);
+    if (!at.matches) /* R/W is still high in a read-modify-write */
+        return undefined_segment_access(m, kind == WRITE, page, number, at);
+    model_descriptor *d = &m->unit[at.unit].d[at.descriptor];
     if (kind == READ || (d->ssr & SSR_WP) == 0)
-        return successful_translation(m, unit, descriptor, kind != READ, (uint32_t)address);
+        return successful_translation(m, at.unit, at.descriptor, kind != READ, (uint32_t)address);
     if (kind == READ_MODIFY_WRITE)
         segment_access(d); /* its read half, which is no violation */
-    return write_violation(m, unit, descriptor, page, number);
+    return write_violation(m, at.unit, at.descriptor, page, number);
 }
 
 /* ------------------------------------------------------------------ */
@@ -588,27 +618,25 @@ static uint8_t load_descriptor(model *m, unsigned unit)
 }
 
 /* 4.6.3.3, direct translation (a read of $3D), ruling 3.  No SSR bit changes. */
-static uint8_t direct_translation(model *m, unsigned unit)
+static model_answer direct_translation(model *m, unsigned unit)
 {
     if (!gat_everywhere(m))
         send_to_all(m, unit, translate_bytes, TRANSLATE_BYTES);
 
     const uint8_t *ac = m->unit[unit].ac;
     uint16_t page = (uint16_t)(ac[0] << 8 | ac[1]);
-    uint8_t number = ac[6];
-    unsigned k, e;
-    bool found = search(m, page, number, &k, &e);
+    found at = search(m, page, ac[6]);
 
     all_no_event(m);
-    if (!found)
-        return 0xFF;
-    model_unit *u = &m->unit[k];
-    uint16_t physical = physical_page(&u->d[e], page);
+    if (!at.matches)
+        return with_reason(byte_answer(m, 0xFF), at);
+    model_unit *u = &m->unit[at.unit];
+    uint16_t physical = physical_page(&u->d[at.descriptor], page);
     fill(u, 4, physical >> 8);
     fill(u, 5, physical & 0xFF);
-    u->dp = (uint8_t)e;
-    event(u, L_DT, e);
-    return 0x00;
+    u->dp = (uint8_t)at.descriptor;
+    event(u, L_DT, at.descriptor);
+    return byte_answer(m, 0x00);
 }
 
 /* ------------------------------------------------------------------ */
@@ -625,7 +653,8 @@ static bool is_accumulator(uint64_t address)
     return address >= 0x20 && address <= 0x28;
 }
 
-/* 4.6.2.2 and the operations that are reads; reads are of the selected unit. */
+/* 4.6.2.2 and the operations that are reads, but for direct translation, whose
+ * answer is more than a byte; reads are of the selected unit. */
 static uint8_t read_register(model *m, unsigned unit, uint64_t address)
 {
     model_unit *u = &m->unit[unit];
@@ -648,8 +677,6 @@ static uint8_t read_register(model *m, unsigned unit, uint64_t address)
         return idp(u);
     case 0x3B:
         return u->rdp;
-    case 0x3D:
-        return direct_translation(m, unit);
     case 0x3F:
         return load_descriptor(m, unit);
     default:
@@ -715,6 +742,8 @@ model_answer model_register(model *m, uint64_t unit, uint64_t address, uint64_t 
         write_register(m, (unsigned)unit, address, value);
         return answer(m, MODEL_DONE);
     }
+    if (address == 0x3D)
+        return direct_translation(m, (unsigned)unit);
     uint8_t byte = read_register(m, (unsigned)unit, address);
     return byte_answer(m, byte);
 }

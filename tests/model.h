@@ -1,7 +1,7 @@
 /* One to six MC68451 memory management units, at the level of whole cycles.
  *
  * Written from the papers alone: the MC68451 handbook of April 1983 (section
- * numbers such as 4.6.3.2 are its own), document 01 ("01"), requests P1 and P2
+ * numbers such as 4.6.3.2 are its own), document 01 ("01"), requests P1, P2 and P4
  * of document 02 and the rulings.
  * It is an oracle for tests: clarity goes before speed everywhere.
  */
@@ -44,11 +44,13 @@ enum {
 };
 
 /* A refusal: its number, every other field zero.
- * Otherwise refusal is zero, and a field that the kind does not have is zero. */
+ * Otherwise refusal is zero, and a field that the kind does not have is zero.
+ * near is 1 where an undefined access, or a direct translation that finds no
+ * match, names a descriptor by unit and descriptor (P4, ruling 16). */
 typedef struct {
     unsigned refusal;
     unsigned kind;
-    unsigned irq, win, unit, descriptor;
+    unsigned irq, win, near, unit, descriptor;
     uint8_t byte;
     uint32_t address;
 } model_answer;

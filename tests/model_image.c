@@ -256,7 +256,7 @@ static bool rules_across(const uint8_t *image, const model *m)
 
 static model_answer refused(unsigned number)
 {
-    model_answer a = {number, MODEL_REFUSED, 0, 0, 0, 0, 0, 0};
+    model_answer a = {.refusal = number, .kind = MODEL_REFUSED};
     return a;
 }
 

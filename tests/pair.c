@@ -65,19 +65,19 @@ void call_print(call c)
 
 static void print_answer(const char *whose, uint64_t a)
 {
-    printf("  %s 0x%016" PRIX64 ": refusal %u, kind %u, irq %u, win %u, unit %u, descriptor %u, byte 0x%02X, "
-           "address 0x%06" PRIX32 "\n",
-           whose, a, cleftromi_refusal(a), cleftromi_kind(a), cleftromi_irq(a), cleftromi_win(a), cleftromi_unit(a),
-           cleftromi_descriptor(a), cleftromi_byte(a), cleftromi_address(a));
+    printf("  %s 0x%016" PRIX64 ": refusal %u, kind %u, irq %u, win %u, near %u, unit %u, descriptor %u, "
+           "byte 0x%02X, address 0x%06" PRIX32 "\n",
+           whose, a, cleftromi_refusal(a), cleftromi_kind(a), cleftromi_irq(a), cleftromi_win(a), cleftromi_near(a),
+           cleftromi_unit(a), cleftromi_descriptor(a), cleftromi_byte(a), cleftromi_address(a));
 }
 
 /* The readers and the whole number: no bit outside the fields may be set. */
 static bool same_answer(uint64_t ours, model_answer a)
 {
     return ours == layout_answer(a) && cleftromi_refusal(ours) == a.refusal && cleftromi_kind(ours) == a.kind &&
-           cleftromi_irq(ours) == a.irq && cleftromi_win(ours) == a.win && cleftromi_unit(ours) == a.unit &&
-           cleftromi_descriptor(ours) == a.descriptor && cleftromi_byte(ours) == a.byte &&
-           cleftromi_address(ours) == a.address;
+           cleftromi_irq(ours) == a.irq && cleftromi_win(ours) == a.win && cleftromi_near(ours) == a.near &&
+           cleftromi_unit(ours) == a.unit && cleftromi_descriptor(ours) == a.descriptor &&
+           cleftromi_byte(ours) == a.byte && cleftromi_address(ours) == a.address;
 }
 
 static void print_difference(const pair *p)
@@ -115,7 +115,7 @@ void pair_lend(pair *p, const uint8_t *block, size_t at, size_t bytes, uint64_t 
 /* The length is the block's, not the chip's: the model does not know of it. */
 static model_answer expected(pair *p, call c)
 {
-    model_answer too_short = {7, MODEL_REFUSED, 0, 0, 0, 0, 0, 0};
+    model_answer too_short = {.refusal = 7, .kind = MODEL_REFUSED};
     return p->bytes < LAYOUT_BYTES ? too_short : call_model(c, &p->m);
 }
 

@@ -48,7 +48,7 @@ static bool same(const pair *p, const lent_image *i, uint64_t ours)
 /* The calls                                                           */
 /* ------------------------------------------------------------------ */
 
-static const model_answer too_short = {7, MODEL_REFUSED, 0, 0, 0, 0, 0, 0};
+static const model_answer too_short = {.refusal = 7, .kind = MODEL_REFUSED};
 
 /* A refused call writes nothing. */
 static void write_state(pair *p)

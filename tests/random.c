@@ -7,10 +7,12 @@
 #include "layout.h"
 #include "mix.h"
 #include "pair.h"
+#include "reasons.h"
 
 static pair both;
 static model before; /* the call */
 static mix calls;
+static reasons why;
 
 /* ------------------------------------------------------------------ */
 /* What has been seen                                                  */
@@ -33,6 +35,7 @@ enum {
     SEEN_NO_TRANSLATION,
     SEEN_DOUBLE_FAULT,
     SEEN_LAST_UNIT,
+    SEEN_LAST_UNIT_NAMED,
     SEEN_FULL_UNIT,
     SEEN_MODIFIED,
     SEEN_MODIFY_FAULT,
@@ -50,7 +53,7 @@ static const char *const seen_names[SEEN_END] = {
     0, "refusals 1", "refusals 2", "refusals 3", "refusals 4", "refusals 5", "refusals 6", "refusals 7",
     "done", "bytes", "mapped", "violations", "undefined", "IRQ", "WIN", "vectors",
     "loads granted", "loads refused", "loads refused by another unit alone", "translations", "translations refused",
-    "double faults", "answers of unit 5", "full units",
+    "double faults", "answers of unit 5", "places named in unit 5", "full units",
     "read-modify-writes of free segments", "undefined read-modify-writes with F clear", "with F set",
     "read-modify-writes of protected segments that raise IRQ", "the rarest of 32 kinds of those that violate",
     "accesses with direction 3", "with another that ends in 2", "register accesses with direction 2",
@@ -127,7 +130,7 @@ static void note(const model *old, call c, model_answer a)
     seen[SEEN_WIN] += a.win;
     seen[SEEN_VECTOR] += c.name == CALL_ACKNOWLEDGE;
     seen[SEEN_DOUBLE_FAULT] += fault && (both.m.gsr & CLEFTROMI_GSR_DF) != 0;
-    seen[SEEN_LAST_UNIT] += a.unit == 5;
+    seen[a.near ? SEEN_LAST_UNIT_NAMED : SEEN_LAST_UNIT] += a.unit == 5;
     if (is_read(c, CLEFTROMI_LOAD))
         note_load(c, a);
     if (is_read(c, CLEFTROMI_TRANSLATE))
@@ -135,6 +138,7 @@ static void note(const model *old, call c, model_answer a)
     if (c.name == CALL_ACCESS)
         seen[SEEN_FULL_UNIT] += full(&both.m.unit[0]);
     note_direction(c);
+    reasons_note(&why, old, c);
     if (c.name == CALL_ACCESS && c.number[1] == CLEFTROMI_MODIFY)
         note_modify(old, a, irq);
     irq = a.irq;
@@ -152,11 +156,12 @@ static unsigned long rarest(const unsigned long *counts, unsigned length)
 /* A long run that misses one of these tests less than it says. */
 static int report(unsigned long made)
 {
-    int status = 0;
+    unsigned long least = made >= 1000000 ? 20 : 0;
+    int status = reasons_report(&why, "", least) != NULL;
     seen[SEEN_MODIFY_VIOLATION] = rarest(&violated[0][0][0][0][0], 32);
     for (unsigned i = 1; i < SEEN_END; i++) {
         printf("%s%lu %s", i > 1 ? ", " : "", seen[i], seen_names[i]);
-        if (made >= 1000000 && seen[i] < 20)
+        if (seen[i] < least)
             status = 1;
     }
     printf("\n%lu calls%s\n", made, status ? ", but some of these were seen too seldom" : ", all the same");
