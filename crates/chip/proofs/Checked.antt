@@ -28,6 +28,7 @@ use Rattle.chip.specs.Answer.{number, values, refused, granted, checked,
 use Rattle.chip.specs.Access.{writes, undefined, match-at, translate-at, translate}
 use Rattle.chip.specs.Register.{operate}
 use Rattle.chip.specs.Call.{checks, carried-out, performed}
+use Rattle.chip.specs.Reason.{Unmatched}
 use Rattle.chip.specs.declared.system.System.{System}
 use Rattle.chip.specs.declared.access.Cycle.{Cycle}
 use Rattle.chip.specs.declared.search.Found.{Found}
@@ -41,7 +42,7 @@ use Rattle.chip.specs.declared.answer.Outcome.{Outcome}
 use Rattle.chip.specs.declared.call.Call.{Call}
 use Rattle.chip.specs.declared.call.Call.the-variants as call
 use Rattle.chip.proofs.First.{First}
-use Rattle.chip.proofs.Once.{matching-found}
+use Rattle.chip.proofs.Once.{matching-found, matching-missed}
 
 pub either : {A : Type 0} (P : A → Type 0) (b : Bool) {x y : A} → (b ≡ true → P x) → (b ≡ false → P y) → P (cond b x y)
 either P true h k = h refl
@@ -86,7 +87,8 @@ module _ (c : Call) (s : System) where
 pub translate-law : (code : ℕ) (cycle : Cycle) (address : ℕ) (s : System) (P : Outcome → Type 0)
     → let page = address / 256 in let number = entry (s .shared) code in
     ((i : ℕ) → First (λ k. matches (descriptor s k) page number) 0 (0 + 32 * present s) i → P (match-at i cycle page number (address % 256) s))
-    → P (granted (Undefined (named (near-place page number s))) (undefined cycle page number s)) → P (translate code cycle address s)
+    → (Unmatched page number s → P (granted (Undefined (named (near-place page number s))) (undefined cycle page number s)))
+    → P (translate code cycle address s)
 unfolding translate translate-at searched
 translate-law code cycle address s P here nowhere = go (matching page number s) refl
   where
@@ -99,7 +101,7 @@ translate-law code cycle address s P here nowhere = go (matching page number s) 
     go : (f : Found) → matching page number s ≡ f
         → P (translate-at (told-by f (named (near-place page number s))) cycle page number (address % 256) s)
     go (At i) e = here i (matching-found s page number i e)
-    go Nowhere e = nowhere
+    go Nowhere e = nowhere (matching-missed s page number e)
 
 -- an answer that is no refusal, with IRQ as it stands in the system that is left
 record Is-granted (o : Outcome) : Type 0 where
@@ -117,7 +119,7 @@ is-granted (call.Reset selected) s = granted-is _ _ refl
 is-granted (call.Access code cycle address) s =
     translate-law code cycle address s Is-granted
     (λ i f. either Is-granted (writes cycle && protected (descriptor s i)) (λ e. granted-is _ _ refl) (λ e. granted-is _ _ refl))
-    (granted-is _ _ refl)
+    (λ u. granted-is _ _ refl)
 is-granted (call.Register m address operation.Read) s = granted-is _ _ refl
 is-granted (call.Register m address (operation.Write value)) s = granted-is _ _ refl
 is-granted (call.Acknowledge m) s = granted-is _ _ refl

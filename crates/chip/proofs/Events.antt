@@ -132,7 +132,7 @@ access-leaves code cycle address s us =
       undefined = λ v. absurd (omega arith);
     })
     (λ w. record { violating = λ v. absurd (omega arith); undefined = λ v. absurd (omega arith) }))
-    (record {
+    (λ u. record {
       violating = λ v. absurd (omega arith);
       undefined = λ v. record { units = undefined-leaves cycle page number s us; gsr = undefined-counts cycle page number s };
     }))

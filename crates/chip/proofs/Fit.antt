@@ -136,7 +136,8 @@ performed-fit c s k = outcome-law c s Fits (λ r. number-fits r _ (kind-fits 0 (
     go (call.Reset selected) n = kind-fits done (lit< tt)
     go (call.Access code cycle address) n =
         translate-law code cycle address s Fits (λ i f. match-fits i cycle _ _ _ s (omega arith) (omega (arith, f .high)))
-        (let near = named (near-place (address / 256) (entry (s .shared) code) s) in
+        (λ u.
+        let near = named (near-place (address / 256) (entry (s .shared) code) s) in
         near-fits near (of-kind undefined) (near-small (address / 256) (entry (s .shared) code) s) (kind-fits undefined (lit< tt)))
     go (call.Register m address operation.Read) n =
         let r = register-at address in

@@ -19,4 +19,5 @@ pub mod Events
 pub mod Segments
 pub mod Halves
 pub mod Fit
+pub mod Reasons
 pub mod Cases

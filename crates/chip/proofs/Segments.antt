@@ -79,4 +79,4 @@ access-segments code cycle address s ds =
     (λ r. record { mapped = λ e. absurd (omega arith); violating = λ e. absurd (omega arith); missed = λ e. absurd (omega arith) })
     (λ n.
     translate-law code cycle address s (Segments cycle s) (λ i f. match-segments i cycle _ _ _ s (omega (arith, f .high)))
-    (record { mapped = λ k. absurd (omega arith); violating = λ k. absurd (omega arith); missed = λ k. refl }))
+    (λ u. record { mapped = λ k. absurd (omega arith); violating = λ k. absurd (omega arith); missed = λ k. refl }))

@@ -139,7 +139,8 @@ translate-steps code cycle address s c h =
     (either (λ (t : System). i / 32 < present t) (reads-first cycle) (λ r. omega arith) (λ r. omega arith)) (omega arith)
     (either (Steps s) (reads-first cycle) (λ r. used Read) (λ r. stays)))
     (λ w. used cycle))
-    (units _ (λ m u. told USA none (lit< tt) none-clean same)
+    (λ n.
+    units _ (λ m u. told USA none (lit< tt) none-clean same)
     (units _ (λ m u. latched page _ fits number-fits same) (fault-steps (reads-first cycle) stays)))
 
 -- 4.6.2.4

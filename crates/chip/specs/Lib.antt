@@ -11,5 +11,6 @@ pub mod Event
 pub mod Segment
 pub mod Register
 pub mod Call
+pub mod Reason
 pub mod Cases
 pub mod Clean

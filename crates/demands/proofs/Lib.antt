@@ -8,4 +8,5 @@ pub mod Loads
 pub mod Neighbours
 pub mod Cycles
 pub mod Images
+pub mod Reasons
 pub mod Bench

@@ -5,7 +5,7 @@
 --     loaded, translated      and of a load and a direct translation, which are register reads
 -- Assumes nothing.
 use Prim.Native.Nat.{ℕ, _<_}
-use mathlib.Core.Path.{_≡_, refl, sym, ap, _∙_}
+use mathlib.Core.Path.{_≡_, refl, sym, ap, subst, _∙_}
 use mathlib.Core.Logic.{_≢_}
 use mathlib.Core.Bool.{Bool, true, false}
 use mathlib.Core.List.{List}
@@ -19,6 +19,7 @@ use Rattle.chip.specs.System.{present}
 use Rattle.chip.specs.Load.{load}
 use Rattle.chip.specs.Translation.{direct-translation}
 use Rattle.chip.specs.Register.{register-at, read as read-register, operate}
+use Rattle.chip.specs.declared.answer.Answer.the-variants.{Byte}
 use Rattle.chip.specs.declared.answer.Outcome.{Outcome}
 use Rattle.chip.specs.declared.answer.Reading.{Reading}
 use Rattle.chip.specs.declared.register.Operation.the-variants as operation
@@ -84,12 +85,14 @@ pub record Was-read (reading : Reading) (m : ℕ) (b : List ℕ) (r : ℕ) (e : 
   pub clean : Clean (read b)
   pub byte : field.byte r ≡ reading .byte
   pub reads : read e ≡ reading .system
+  pub asserted : Bool
+  pub fields : Fields (values (Byte (reading .byte) (reading .near))) asserted r
 
 -- where it has no numbered refusal, it is the read of that register in unit m
 was-read : (m address : ℕ) {value r : ℕ} {b e : List ℕ} → Bytes b → Register m address 0 value b r e → refusal r ≡ 0
     → Was-read (read-register (register-at address) m (read b)) m b r e
 unfolding granted operate
-was-read m address {b = b} h k e =
+was-read m address {r = r} {b} h k e =
     let c = call.Register m address operation.Read in
     let k′ = made (histories.register k) in
     let g = granted-told c b (rw (k′ .answered) at e) in
@@ -100,6 +103,8 @@ was-read m address {b = b} h k e =
       clean = read-clean b h;
       byte = o .fields .byte ∙ ap (λ (o : Outcome). values (o .answer) .byte) (l .1);
       reads = o .registers ∙ ap (λ (o : Outcome). o .system) (l .1);
+      asserted = performed c (read b) .irq;
+      fields = subst (λ (p : Outcome). Fields (values (p .answer)) (performed c (read b) .irq) r) (l .1) (o .fields);
     }
 
 -- a load, and a direct translation

@@ -29,7 +29,7 @@ use Rattle.descriptors.proofs.descriptor.Descriptor.enabled as Descriptor-enabl
 use Rattle.descriptors.proofs.descriptor.Descriptor.protected as Descriptor-protected
 use Rattle.descriptors.proofs.descriptor.Descriptor.pending as Descriptor-pending
 use Rattle.descriptors.proofs.descriptor.Descriptor.with_ssr as Descriptor-with-ssr
-use Rattle.descriptors.proofs.descriptor.Descriptor.matches as Descriptor-matches
+use Rattle.descriptors.proofs.descriptor.Descriptor.match_answer as Descriptor-match-answer
 use Rattle.descriptors.proofs.descriptor.Descriptor.physical_page as Descriptor-physical-page
 use Rattle.descriptors.proofs.descriptor.Descriptor.bytes as Descriptor-bytes
 use Rattle.descriptors.proofs.descriptor.Descriptor.collides as Descriptor-collides
@@ -117,7 +117,7 @@ pub record Outcomes : Type 0 where
   pub Descriptor-protected : At-most-one Descriptor-protected.Kinds.ps Descriptor-protected.Kinds.r Descriptor-protected.Reads.Post
   pub Descriptor-pending : At-most-one Descriptor-pending.Kinds.ps Descriptor-pending.Kinds.r Descriptor-pending.Reads.Post
   pub Descriptor-with-ssr : At-most-one Descriptor-with-ssr.Kinds.ps Descriptor-with-ssr.Kinds.r Descriptor-with-ssr.Reads.Post
-  pub Descriptor-matches : At-most-one Descriptor-matches.Kinds.ps Descriptor-matches.Kinds.r Descriptor-matches.Reads.Post
+  pub Descriptor-match-answer : At-most-one Descriptor-match-answer.Kinds.ps Descriptor-match-answer.Kinds.r Descriptor-match-answer.Reads.Post
   pub Descriptor-physical-page : At-most-one Descriptor-physical-page.Kinds.ps Descriptor-physical-page.Kinds.r Descriptor-physical-page.Reads.Post
   pub Descriptor-bytes : At-most-one Descriptor-bytes.Kinds.ps Descriptor-bytes.Kinds.r Descriptor-bytes.Reads.Post
   pub Descriptor-collides : At-most-one Descriptor-collides.Kinds.ps Descriptor-collides.Kinds.r Descriptor-collides.Reads.Post

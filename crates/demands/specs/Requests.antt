@@ -1,14 +1,21 @@
 -- What document 02 asks for beyond the demands, request by request, under its words. It is claimed of anything that keeps the promises.
-use Prim.Native.Nat.{ℕ, _+_, _*_}
+use Prim.Native.Nat.{ℕ, _+_, _*_, _/_}
 use mathlib.Core.Path.{_≡_}
 use mathlib.Core.Logic.{_≢_, _↔_}
 use mathlib.Core.Bool.{true, false}
 use mathlib.Core.List.{List}
 use lib.ListN.{length}
 use Rattle.masks.specs.Fields.{every}
-use Rattle.chip.specs.Answer.{mapped, violating, undefined, granted, first-of, miscounted}
+use Rattle.descriptors.specs.Descriptor.{matches, match-answer, is-yes}
+use Rattle.descriptors.specs.declared.descriptor.Descriptor.{Descriptor}
+use Rattle.registers.specs.Unit.{word, ac}
+use Rattle.registers.specs.Shared.{entry}
+use Rattle.chip.specs.System.{unit}
+use Rattle.chip.specs.Answer.{byte-read, mapped, violating, undefined, granted, first-of, miscounted}
 use Rattle.chip.specs.declared.answer.Answer.the-variants.{Done}
 use Rattle.chip.specs.Segment.{sets, Accessed}
+use Rattle.chip.specs.Reason.{Unmatched, Carried, May-carry}
+use Rattle.chip.specs.declared.call.Call.{Call}
 use Rattle.pieces.specs.Pieces.{Bytes}
 use Rattle.block.specs.Layout.{short, read}
 use Rattle.image.specs.Block.{size, adds-up}
@@ -16,8 +23,8 @@ use Rattle.image.specs.Image.{form, blocks, from-block, system-of, could-satisf
 use Rattle.cleftromi.specs.Interface.{cycle-by}
 use Rattle.cleftromi.specs.Fields.{refusal, kind}
 use Rattle.cleftromi.specs.Fields as field
-use Rattle.demands.specs.Histories.{Access, Register, Save, Restore, Reached}
-use Rattle.demands.specs.Demands.{As-stated, One-match, Same-marked}
+use Rattle.demands.specs.Histories.{Access, Register, Save, Restore, Asks, Reached}
+use Rattle.demands.specs.Demands.{As-stated, One-match, Same-marked, Translation}
 
 -- the place of the descriptor that an answer names
 abbrev pub place : (answer : ℕ) → ℕ
@@ -92,3 +99,34 @@ pub record End-of-shift-image : Type 0 where
       → Save image saved b answer after → (refusal answer ≡ 0) × (after ≡ b)
   pub reached-restored : {image saved : List ℕ} {answer answer′ : ℕ} {b after after′ : List ℕ} → Reached b
       → Save image saved b answer after → refusal answer ≡ 0 → Restore saved b answer′ after′ → (refusal answer′ ≡ 0) × (after′ ≡ b)
+
+-- ---- P4. "Why was it undefined?"; of every block of bytes
+
+pub record Why-undefined : Type 0 where
+  -- "Yes and no stay": the match answer is yes exactly where the descriptor matches, as 01 has it,
+  pub yes-stays : (d : Descriptor) (page number : ℕ) → is-yes (match-answer d page number) ≡ matches d page number
+  -- so that an access is undefined, and a direct translation answers $FF, exactly where no descriptor of any unit matches.
+  pub undefined-exactly : {function-code direction address answer : ℕ} {b after : List ℕ} → Bytes b
+      → Access function-code direction address b answer after → refusal answer ≡ 0
+      → (kind answer ≡ undefined) ↔ Unmatched (address / 256) (entry (read b .shared) function-code) (read b)
+  pub no-match-exactly : {m value answer : ℕ} {b after : List ℕ} → Bytes b → Translation m value b answer after → refusal answer ≡ 0
+      → (field.byte answer ≡ 0xFF) ↔ Unmatched (word (unit (read b) m) 0) (ac (unit (read b) m) 6) (read b)
+  -- "The undefined answer then carries the lowest unit and then descriptor whose space alone differed, if there is one .. bus access and
+  -- direct translation pass the reason on", in every direction of an access.
+  pub access-carries : {function-code direction address answer : ℕ} {b after : List ℕ} → Bytes b
+      → Access function-code direction address b answer after → kind answer ≡ undefined
+      → Carried (address / 256) (entry (read b .shared) function-code) (read b) (field.near answer) (field.unit answer) (field.descriptor answer)
+  pub translation-carries : {m value answer : ℕ} {b after : List ℕ} → Bytes b → Translation m value b answer after → refusal answer ≡ 0
+      → field.byte answer ≡ 0xFF
+      → Carried (word (unit (read b) m) 0) (ac (unit (read b) m) 6) (read b) (field.near answer) (field.unit answer) (field.descriptor answer)
+  -- Beside it such an answer has what it had before: its kind and IRQ, and a direct translation its byte.
+  pub access-else : {function-code direction address answer : ℕ} {b after : List ℕ} → Bytes b
+      → Access function-code direction address b answer after → kind answer ≡ undefined
+      → (refusal answer ≡ 0) × (field.win answer ≡ 0) × (field.byte answer ≡ 0) × (field.address answer ≡ 0)
+  pub translation-else : {m value answer : ℕ} {b after : List ℕ} → Bytes b → Translation m value b answer after → refusal answer ≡ 0
+      → (kind answer ≡ byte-read) × (field.win answer ≡ 0) × (field.address answer ≡ 0)
+  -- No other answer carries one: not that of an address or of a write violation, of another register, of any other call.
+  pub no-other : {c : Call} {answer : ℕ} {b after : List ℕ} → Bytes b → Asks c b answer after → field.near answer ≡ 1
+      → May-carry (kind answer) (field.byte answer) c
+  pub save-carries-none : {image saved : List ℕ} {answer : ℕ} {b after : List ℕ} → Bytes b → Save image saved b answer after → field.near answer ≡ 0
+  pub restore-carries-none : {image : List ℕ} {answer : ℕ} {b after : List ℕ} → Restore image b answer after → field.near answer ≡ 0
