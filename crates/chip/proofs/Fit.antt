@@ -1,6 +1,6 @@
 -- Every value that a call answers fits its field of the 64-bit answer, so that nothing is cut off. Assumes nothing.
 use Prim.Native.Nat.{ℕ, _/_, _%_, _^_, _<_}
-use mathlib.Core.Bool.{Bool, true, false, _&&_, cond}
+use mathlib.Core.Bool.{Bool, true, _&&_}
 use native.Mathlib.Omega.{arith}
 use lib.Dec.{lit<}
 use Rattle.masks.proofs.Laws.{gate-fits}
@@ -11,7 +11,7 @@ use Rattle.registers.specs.Shared.{entry}
 use Rattle.registers.proofs.Numbers.{lsr-fits, gsr-fits, rdp-fits}
 use Rattle.chip.specs.System.{present, unit, descriptor, pointed, with-descriptor}
 use Rattle.chip.specs.Search.{number-of, in-unit, lip, searched, told-by, named, near-place, matching}
-use Rattle.chip.specs.Answer.{number, done, byte-read, mapped, violating, undefined, values, refused, granted, reading}
+use Rattle.chip.specs.Answer.{number, done, byte-read, mapped, violating, undefined, values, refused, granted}
 use Rattle.chip.specs.Answer.{of-kind, with-number, with-address, with-place, with-near, with-byte}
 use Rattle.chip.specs.Access.{writes, match-at}
 use Rattle.chip.specs.Transfer.{transfer}

@@ -19,8 +19,6 @@ use Rattle.chip.specs.declared.system.System.{System}
 use Rattle.chip.specs.declared.search.Found.{Found}
 use Rattle.chip.specs.declared.search.Found.the-variants.{At, Nowhere}
 use Rattle.chip.specs.declared.search.Near.{Near}
-use Rattle.chip.specs.declared.search.Search.{Search}
-use Rattle.chip.specs.declared.search.Search.the-variants.{Match, NoMatch}
 use Rattle.chip.proofs.First.{first-found, first-missed}
 use Rattle.chip.proofs.Once.{matching-found}
 

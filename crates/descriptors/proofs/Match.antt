@@ -4,7 +4,7 @@
 --     space-alone-law   the same, test by test
 -- Assumes nothing.
 use Prim.Native.Nat.{ℕ}
-use mathlib.Core.Path.{_≡_, refl, sym, _∙_}
+use mathlib.Core.Path.{_≡_, refl, sym}
 use mathlib.Core.Logic.{_↔_}
 use mathlib.Core.Bool.{Bool, true, false, _&&_, not, cond, false≢true}
 use Rattle.descriptors.specs.Descriptor.{enabled, range-match, space-match, matches, compared, match-answer, is-yes, space-alone}

@@ -1,7 +1,6 @@
 -- `System::access` meets its contract: the checks in their order, then the translation. Assumes nothing.
 use borrow.Author.Needs.{needs}
 use mathlib.Core.Path.{sym, _∙_}
-use native.Mathlib.Omega.{arith}
 use borrow.Author.Tests.{lt-ltb, le-ltb}
 use Rattle.chip.specs.Access.{translate}
 use Rattle.chip.proofs.Near.{searched-located}

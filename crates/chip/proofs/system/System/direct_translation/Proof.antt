@@ -1,7 +1,6 @@
 -- `System::direct_translation` meets its contract: by where the match was found. Assumes nothing.
 use borrow.Author.Needs.{needs}
 use mathlib.Core.Path.{sym, _∙_}
-use native.Mathlib.Omega.{arith}
 use Rattle.chip.specs.Translation.{result-at, direct-translation}
 use Rattle.chip.proofs.Near.{searched-located}
 use Rattle.masks.proofs.Free.{free}
