@@ -1,12 +1,14 @@
 /* A host of one MMU: sets up the memory map of Figure 6-1 of the MC68451
  * handbook, maps a few addresses through it, makes two faults and reads what
- * the chip noted of them, and tries a load that clashes.
+ * the chip noted of them, asks whose page an undefined access wanted, and tries
+ * a load that clashes.
  *
  *     examples/run
  */
 #include <inttypes.h>
 #include <stdio.h>
 #include <stdlib.h>
+#include <string.h>
 #include "cleftromi.h"
 
 /* Function codes of the 68010 that the host uses. */
@@ -98,6 +100,25 @@ static void show_load(unsigned descriptor, const segment *s)
 /* Accesses                                                            */
 /* ------------------------------------------------------------------ */
 
+/* "Which task owns the page that this task asked for?"  A copy is asked, so that
+ * the board keeps what the fault left in it. */
+static void show_owner(uint64_t a)
+{
+    if (!cleftromi_near(a)) {
+        printf("  nobody has the page\n");
+        return;
+    }
+    uint8_t copy[CLEFTROMI_STATE_BYTES];
+    unsigned near_unit = cleftromi_unit(a), descriptor = cleftromi_descriptor(a);
+    memcpy(copy, board, sizeof copy);
+    cleftromi_register(copy, sizeof copy, near_unit, CLEFTROMI_DP, CLEFTROMI_WRITE, (uint8_t)descriptor);
+    cleftromi_register(copy, sizeof copy, near_unit, CLEFTROMI_SSR, CLEFTROMI_READ, 0);
+    uint64_t number = cleftromi_register(copy, sizeof copy, near_unit, CLEFTROMI_AC6, CLEFTROMI_READ, 0);
+    uint64_t mask = cleftromi_register(copy, sizeof copy, near_unit, CLEFTROMI_AC8, CLEFTROMI_READ, 0);
+    printf("  the page is in descriptor %u, for number $%02X in the bits $%02X\n", descriptor, cleftromi_byte(number),
+           cleftromi_byte(mask));
+}
+
 static void show_access(unsigned function_code, unsigned direction, uint32_t address)
 {
     uint64_t a = touch(function_code, direction, address);
@@ -113,6 +134,7 @@ static void show_access(unsigned function_code, unsigned direction, uint32_t add
         break;
     default:
         printf("undefined\n");
+        show_owner(a);
         break;
     }
 }

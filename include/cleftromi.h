@@ -306,9 +306,11 @@ static inline unsigned cleftromi_win(uint64_t answer)
  *     }
  *
  * The page belongs to the task whose number is `number` in the bits that are set
- * in `mask`: "the print task asked for a page of the setup task".  Without it the
- * page belongs to nobody, and the address itself is wrong.  examples/host.c does
- * this. */
+ * in `mask`: "the print task asked for a page of the setup task".  With near 0 it
+ * belongs to nobody, and the address itself is wrong.  A segment that has every
+ * page, as a reset leaves one in descriptor 0 of the unit that is selected, is
+ * named for all of them: load such a one into the last descriptor, and a task's
+ * own is named first.  examples/host.c does this, examples/owner.md shows it. */
 static inline unsigned cleftromi_near(uint64_t answer)
 {
     return (unsigned)(answer >> 14 & 1);
@@ -374,8 +376,9 @@ enum {
 
     /* A read translates page AC0, AC1 for the number in AC6, in all units.
      * $00: the unit that has it puts the physical page in its AC4, AC5 and the
-     * descriptor in its DP and RDP.  $FF: no unit has it.  Where GAT is clear
-     * in some unit, the selected unit's AC0, 1 and 6 first go to all units. */
+     * descriptor in its DP and RDP.  $FF: no unit has it, and cleftromi_near
+     * tells who has it for other numbers.  Where GAT is clear in some unit, the
+     * selected unit's AC0, 1 and 6 first go to all units. */
     CLEFTROMI_TRANSLATE = 0x3D,
 
     /* A read loads AC0 to AC8 of the selected unit into its descriptor that DP
