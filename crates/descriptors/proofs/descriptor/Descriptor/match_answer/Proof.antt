@@ -1,49 +1,43 @@
--- `Descriptor::match_answer` meets its contract: test by test. Assumes nothing.
-use mathlib.Core.Path.{sym, _∙_}
+-- `Descriptor::match_answer` meets its contract: by its tests. Assumes nothing.
+use Prim.Native.Nat.{ℕ}
+use mathlib.Core.Path.{_≡_, sym, _∙_}
+use mathlib.Core.Bool.{Bool, cond}
 use Rattle.masks.proofs.Free.{free}
-use Rattle.descriptors.specs.Descriptor.{match-answer}
+use Rattle.descriptors.specs.Descriptor.{enabled, range-match, space-match, compared, match-answer}
+use Rattle.descriptors.specs.declared.descriptor.Descriptor.{Descriptor}
+use Rattle.descriptors.specs.declared.descriptor.Match.the-variants.{Disabled}
 use Rattle.descriptors.proofs.descriptor.Descriptor.match_answer.Statement.{statement}
 use Rattle.descriptors.proofs.descriptor.Descriptor.match_answer.Tie as tie
 
-returns : tie.Need-returns
+-- each test gave what its function promises, and was found so
+by : (d : Descriptor) (page number : ℕ) {e r s e′ r′ s′ : Bool} → e ≡ enabled d → e ≡ e′ → r ≡ range-match d page → r ≡ r′
+    → s ≡ space-match d number → s ≡ s′ → cond e′ (compared r′ s′) Disabled ≡ match-answer d page number
 unfolding match-answer
+by d page number e e′ r r′ s s′ = rw (sym e ∙ e′, sym r ∙ r′, sym s ∙ s′)
+
+returns : tie.Need-returns
 returns c =
-    let ranged = c .before .before .before in
-    rw (
-      sym (ranged .before .before .enabled .ensures) ∙ ranged .before .if1 .taken,
-      sym (ranged .range-match .ensures) ∙ c .before .before .if2 .taken,
-      sym (c .before .space-match .ensures) ∙ c .if3 .taken,
-    )
+    let at = c .before .before .before in
+    by _ _ _ (at .before .before .enabled .ensures) (at .before .if1 .taken) (at .range-match .ensures) (c .before .before .if2 .taken)
+    (c .before .space-match .ensures) (c .if3 .taken)
 
 returns-2 : tie.Need-returns-2
-unfolding match-answer
 returns-2 c =
-    let ranged = c .before .before .before in
-    rw (
-      sym (ranged .before .before .enabled .ensures) ∙ ranged .before .if1 .taken,
-      sym (ranged .range-match .ensures) ∙ c .before .before .if2 .taken,
-      sym (c .before .space-match .ensures) ∙ c .if3 .left,
-    )
+    let at = c .before .before .before in
+    by _ _ _ (at .before .before .enabled .ensures) (at .before .if1 .taken) (at .range-match .ensures) (c .before .before .if2 .taken)
+    (c .before .space-match .ensures) (c .if3 .left)
 
 returns-3 : tie.Need-returns-3
-unfolding match-answer
 returns-3 c =
-    let ranged = c .before .before .before in
-    rw (
-      sym (ranged .before .before .enabled .ensures) ∙ ranged .before .if1 .taken,
-      sym (ranged .range-match .ensures) ∙ c .before .before .if2 .left,
-      sym (c .before .space-match2 .ensures) ∙ c .if4 .taken,
-    )
+    let at = c .before .before .before in
+    by _ _ _ (at .before .before .enabled .ensures) (at .before .if1 .taken) (at .range-match .ensures) (c .before .before .if2 .left)
+    (c .before .space-match2 .ensures) (c .if4 .taken)
 
 returns-4 : tie.Need-returns-4
-unfolding match-answer
 returns-4 c =
-    let ranged = c .before .before .before in
-    rw (
-      sym (ranged .before .before .enabled .ensures) ∙ ranged .before .if1 .taken,
-      sym (ranged .range-match .ensures) ∙ c .before .before .if2 .left,
-      sym (c .before .space-match2 .ensures) ∙ c .if4 .left,
-    )
+    let at = c .before .before .before in
+    by _ _ _ (at .before .before .enabled .ensures) (at .before .if1 .taken) (at .range-match .ensures) (c .before .before .if2 .left)
+    (c .before .space-match2 .ensures) (c .if4 .left)
 
 returns-5 : tie.Need-returns-5
 unfolding match-answer
