@@ -28,7 +28,7 @@ use Rattle.image.proofs.Sound.{sound-law, invariants-sound}
 use Rattle.image.proofs.Round.{system-back, form-refusal}
 use Rattle.image.proofs.Back.{accepted-clean, accepted-back, accepted-invariants, accepted-length}
 use Rattle.cleftromi.specs.Interface.{save-refusals, restore-refusals}
-use Rattle.cleftromi.specs.Fields.{number-of, refusal}
+use Rattle.cleftromi.specs.Fields.{Fields, number-of, refusal}
 use Rattle.cleftromi.proofs.Fields.{fields}
 use Rattle.cleftromi.proofs.Blocks.{Holds}
 use Rattle.cleftromi.proofs.Images.{written-holds, save-told, savable, save-sound, save-done, restore-told, restorable, restore-done}
@@ -49,20 +49,24 @@ one-to-six n e = record { some = omega (arith, well-counted n e, positive n e); 
     positive n e z = true≢false (sym (ap (λ (k : ℕ). miscounted k) z) ∙ e)
 
 -- an answer tells the table's refusal
-save-none : {image saved b e : List ℕ} {r : ℕ} → Made-save image saved b r e → refusal r ≡ first-of (save-refusals b image)
+pub save-none : {image saved b e : List ℕ} {r : ℕ} → Made-save image saved b r e → refusal r ≡ first-of (save-refusals b image)
 save-none {image} {b = b} m = ap refusal (m .answered) ∙ save-told b image
 
-restore-none : {image b e : List ℕ} {r : ℕ} → Made-restore image b r e → refusal r ≡ first-of (restore-refusals b image)
+pub restore-none : {image b e : List ℕ} {r : ℕ} → Made-restore image b r e → refusal r ≡ first-of (restore-refusals b image)
 restore-none {image} {b} m = ap refusal (m .answered) ∙ restore-told b image
+
+-- done, and nothing else but IRQ
+pub done-told : (t : System) → let o = granted Done t in Fields (values (o .answer)) (o .irq) (number-of (values (o .answer)) (o .irq))
+unfolding granted
+done-told t =
+    fields _ _ (record { number = lit< tt; kind = lit< tt; unit = lit< tt; descriptor = lit< tt; byte = lit< tt; address = lit< tt })
 
 -- a call that is done, and leaves a system in clean form in a block that is long enough
 done-stated : (t : System) (b : List ℕ) {r : ℕ} {e : List ℕ} → short b ≡ false → Clean t
     → let o = granted Done t in r ≡ number-of (values (o .answer)) (o .irq) → e ≡ written b t → As-stated o r e
 unfolding granted
 done-stated t b long c answered left = record {
-  fields =
-      rw answered
-      (fields _ _ (record { number = lit< tt; kind = lit< tt; unit = lit< tt; descriptor = lit< tt; byte = lit< tt; address = lit< tt }));
+  fields = rw answered (done-told t);
   registers = rw left (written-holds b t long c .reads);
 }
 

@@ -23,14 +23,16 @@ use Rattle.cleftromi.specs.Interface.{cycle-by}
 use Rattle.cleftromi.specs.Fields.{refusal, kind}
 use Rattle.cleftromi.specs.Fields as field
 use Rattle.cleftromi.proofs.Blocks.{short-answer, granted-told}
+use Rattle.cleftromi.proofs.Images.{save-done, restore-done}
+use Rattle.image.specs.Image.{system-of}
 use Rattle.demands.specs.Histories as histories
 use Rattle.demands.specs.Histories.{Access, Asks}
 use Rattle.demands.specs.Demands.{As-stated}
 use Rattle.demands.specs.Requests.{Why-undefined}
-use Rattle.demands.proofs.Calls.{made}
-use Rattle.demands.proofs.Refusals.{demand-1}
+use Rattle.demands.proofs.Calls.{made, made-save, made-restore}
+use Rattle.demands.proofs.Refusals.{save-refused-by, restore-refused-by}
 use Rattle.demands.proofs.Stated.{stated, accessed, translated}
-use Rattle.demands.proofs.Images.{end-of-shift-image}
+use Rattle.demands.proofs.Images.{done-told, save-none, restore-none}
 
 -- an access, through C: what it answers, and why
 reasoned : {code direction address r : ℕ} {b e : List ℕ} → Bytes b → Access code direction address b r e → kind r ≢ 0
@@ -91,8 +93,12 @@ why-undefined = record {
       rw (o .0 .fields .refusal, o .0 .fields .win, o .0 .fields .byte, o .0 .fields .address, whole) (refl, refl, refl, refl);
   translation-else = λ h a e. let o = translated h a e in (o .fields .kind, o .fields .win, o .fields .address);
   no-other = λ {c} h a e. carrying c h a e;
-  save-carries-none = λ {answer = answer} h k.
-      none-by answer (demand-1 .save-refused k .0 .alone) (λ e. end-of-shift-image .saves h k e .0 .fields .near);
-  restore-carries-none = λ {answer = answer} k.
-      none-by answer (demand-1 .restore-refused k .alone) (λ e. end-of-shift-image .restores k e .fields .near);
+  save-carries-none = λ {image} {answer = answer} {b} k.
+      let m = made-save k in
+      none-by answer (save-refused-by m .0 .alone) (λ e.
+      rw (m .answered ∙ save-done b image (sym (save-none m) ∙ e) .0) (done-told (read b) .near));
+  restore-carries-none = λ {image} {answer} {b} k.
+      let m = made-restore k in
+      none-by answer (restore-refused-by m .alone) (λ e.
+      rw (m .answered ∙ restore-done b image (sym (restore-none m) ∙ e) .0) (done-told (system-of image) .near));
 }

@@ -18,7 +18,7 @@ refused-by c {b} m = rw (m .answered, m .left) (record {
   unchanged = λ n. refused-alone c b n .1;
 })
 
-save-refused-by : {image saved b e : List ℕ} {r : ℕ} → Made-save image saved b r e
+pub save-refused-by : {image saved b e : List ℕ} {r : ℕ} → Made-save image saved b r e
     → Refused-by (save-refusals b image) b r e × (refusal r ≢ 0 → saved ≡ image)
 save-refused-by {image} {b = b} m =
     let alone : (n : refusal (save-answer b image) ≢ 0) → _ = λ n. save-alone b image (rw (save-told b image) at n) in
@@ -31,7 +31,7 @@ save-refused-by {image} {b = b} m =
       λ n. alone n .2,
     )
 
-restore-refused-by : {image b e : List ℕ} {r : ℕ} → Made-restore image b r e → Refused-by (restore-refusals b image) b r e
+pub restore-refused-by : {image b e : List ℕ} {r : ℕ} → Made-restore image b r e → Refused-by (restore-refusals b image) b r e
 restore-refused-by {image} {b} m =
     let alone : (n : refusal (restore-answer b image) ≢ 0) → _ = λ n. restore-alone b image (rw (restore-told b image) at n) in
     rw (m .answered, m .left) (record {

@@ -128,5 +128,5 @@ pub record Why-undefined : Type 0 where
   -- No other answer carries one: not that of an address or of a write violation, of another register, of any other call.
   pub no-other : {c : Call} {answer : ℕ} {b after : List ℕ} → Bytes b → Asks c b answer after → field.near answer ≡ 1
       → May-carry (kind answer) (field.byte answer) c
-  pub save-carries-none : {image saved : List ℕ} {answer : ℕ} {b after : List ℕ} → Bytes b → Save image saved b answer after → field.near answer ≡ 0
+  pub save-carries-none : {image saved : List ℕ} {answer : ℕ} {b after : List ℕ} → Save image saved b answer after → field.near answer ≡ 0
   pub restore-carries-none : {image : List ℕ} {answer : ℕ} {b after : List ℕ} → Restore image b answer after → field.near answer ≡ 0
