@@ -54,11 +54,11 @@ near-carried page number s = go (near-place page number s) refl
         let f = first-found (λ k. space-alone (match-answer (descriptor s k) page number)) 0 (32 * present s) i e in
         let place : 32 * (i / 32) + i % 32 ≡ i = omega arith in
         record {
-          lowest = λ q.
+          names-lowest = λ q.
               rw place (omega (arith, f .high), space-alone-law (descriptor s i) page number .0 (f .here), λ k l. alone k (f .before k (omega arith) l));
-          none = λ q. absurd (omega arith);
+          names-none = λ q. absurd (omega arith);
         }
     go Nowhere e = record {
-      lowest = λ q. absurd (omega arith);
-      none = λ q. (λ k l. alone k (first-missed _ 0 (32 * present s) e k (omega arith) (omega arith)), refl, refl);
+      names-lowest = λ q. absurd (omega arith);
+      names-none = λ q. (λ k l. alone k (first-missed _ 0 (32 * present s) e k (omega arith) (omega arith)), refl, refl);
     }

@@ -53,7 +53,7 @@ use Rattle.chip.proofs.Loading.{prepared, off}
 
 pub record Reasoned (page number : ℕ) (s : System) (o : Outcome) : Type 0 where
   pub unmatched : values (o .answer) .kind ≡ undefined-kind → Unmatched page number s
-  pub undefined : values (o .answer) .number ≡ 0 → Unmatched page number s → values (o .answer) .kind ≡ undefined-kind
+  pub so-undefined : values (o .answer) .number ≡ 0 → Unmatched page number s → values (o .answer) .kind ≡ undefined-kind
   pub whole : values (o .answer) .kind ≡ undefined-kind → values (o .answer) ≡ with-near (named (near-place page number s)) (of-kind undefined-kind)
 
 module _ (code : ℕ) (cycle : Cycle) (address : ℕ) (s : System) where
@@ -68,7 +68,7 @@ module _ (code : ℕ) (cycle : Cycle) (address : ℕ) (s : System) where
       → values (o .answer) .kind ≢ undefined-kind → Reasoned page number s o
   matched i o f n = record {
     unmatched = λ e. absurd (n e);
-    undefined = λ z u. absurd (false≢true (sym (u i (omega (arith, f .high))) ∙ f .here));
+    so-undefined = λ z u. absurd (false≢true (sym (u i (omega (arith, f .high))) ∙ f .here));
     whole = λ e. absurd (n e);
   }
 
@@ -76,13 +76,13 @@ module _ (code : ℕ) (cycle : Cycle) (address : ℕ) (s : System) where
   unfolding match-at refused granted
   access-reason =
       outcome-law (call.Access code cycle address) s (Reasoned page number s)
-      (λ r. record { unmatched = λ e. absurd (omega arith); undefined = λ z u. absurd (refusal-told r .0 z); whole = λ e. absurd (omega arith) })
+      (λ r. record { unmatched = λ e. absurd (omega arith); so-undefined = λ z u. absurd (refusal-told r .0 z); whole = λ e. absurd (omega arith) })
       (λ n.
       translate-law code cycle address s (Reasoned page number s)
       (λ i f.
       either (Reasoned page number s) (writes cycle && protected (descriptor s i))
       (λ w. matched i _ f (λ e. omega arith)) (λ w. matched i _ f (λ e. omega arith)))
-      (λ u. record { unmatched = λ e. u; undefined = λ z u. refl; whole = λ e. refl }))
+      (λ u. record { unmatched = λ e. u; so-undefined = λ z u. refl; whole = λ e. refl }))
 
 -- ---- 4.6.3.3: a direct translation, by unit m's accumulator
 
@@ -123,17 +123,17 @@ translation-reason m s h us =
 -- a read that carries a reason is a direct translation, and answers $FF
 record Told (address : ℕ) (r : Reading) : Type 0 where
   where-from : named-by (r .near) .2 ≡ true → address ≡ 0x3D
-  byte : named-by (r .near) .2 ≡ true → r .byte ≡ 0xFF
+  answers-ff : named-by (r .near) .2 ≡ true → r .byte ≡ 0xFF
 
 silent : (address : ℕ) (r : Reading) → r .near ≡ Nothing → Told address r
 silent address r e =
     let none : named-by (r .near) .2 ≡ false = ap (λ (n : Near). named-by n .2) e in
-    record { where-from = λ q. absurd (false≢true (sym none ∙ q)); byte = λ q. absurd (false≢true (sym none ∙ q)) }
+    record { where-from = λ q. absurd (false≢true (sym none ∙ q)); answers-ff = λ q. absurd (false≢true (sym none ∙ q)) }
 
 translation-told : (x : Search) (page : ℕ) (s : System) → Told 0x3D (result-at x page s)
 unfolding result-at
 translation-told (Match i) page s = silent 0x3D _ refl
-translation-told (NoMatch near) page s = record { where-from = λ q. refl; byte = λ q. refl }
+translation-told (NoMatch near) page s = record { where-from = λ q. refl; answers-ff = λ q. refl }
 
 load-near : (d : Descriptor) (i : ℕ) (s : System) → load-at d i s .near ≡ Nothing
 unfolding load-at
@@ -166,7 +166,7 @@ carries-only c s = outcome-law c s (Only c) (λ r q. absurd (false≢true q)) (�
     Only c o = values (o .answer) .near ≡ true → May-carry (values (o .answer) .kind) (values (o .answer) .byte) c
 
     by-translation : (m address byte : ℕ) → address ≡ 0x3D → byte ≡ 0xFF → May-carry byte-read byte (call.Register m address operation.Read)
-    by-translation m address byte e f = rw e (reason.translation refl f)
+    by-translation m address byte e f = rw e (reason.by-translation refl f)
 
     go : (c : Call) → Only c (carried-out c s)
     go (call.Start count selected) = λ q. absurd (false≢true q)
@@ -176,9 +176,9 @@ carries-only c s = outcome-law c s (Only c) (λ r q. absurd (false≢true q)) (�
         (λ i f.
         either (Only (call.Access code cycle address)) (writes cycle && protected (descriptor s i))
         (λ e q. absurd (false≢true q)) (λ e q. absurd (false≢true q)))
-        (λ u q. reason.access refl)
+        (λ u q. reason.by-access refl)
     go (call.Register m address operation.Read) = λ q.
         let told = read-told address m s in
-        by-translation m address _ (told .where-from q) (told .byte q)
+        by-translation m address _ (told .where-from q) (told .answers-ff q)
     go (call.Register m address (operation.Write value)) = λ q. absurd (false≢true q)
     go (call.Acknowledge m) = λ q. absurd (false≢true q)

@@ -23,12 +23,12 @@ Space-differs d page number = (enabled d ≡ true) × (range-match d page ≡ tr
 -- "the lowest unit and then descriptor whose space alone differed, if there is one": where near is 1 it is the one of this unit and
 -- descriptor; where near is 0 there is none, and both are zero
 pub record Carried (page number : ℕ) (s : System) (near unit n : ℕ) : Type 0 where
-  pub lowest : near ≡ 1 → let i = 32 * unit + n in
+  pub names-lowest : near ≡ 1 → let i = 32 * unit + n in
       (i < 32 * present s) × Space-differs (descriptor s i) page number × ((k : ℕ) → k < i → Space-differs (descriptor s k) page number → ⊥)
-  pub none : near ≡ 0 → ((k : ℕ) → k < 32 * present s → Space-differs (descriptor s k) page number → ⊥) × (unit ≡ 0) × (n ≡ 0)
+  pub names-none : near ≡ 0 → ((k : ℕ) → k < 32 * present s → Space-differs (descriptor s k) page number → ⊥) × (unit ≡ 0) × (n ≡ 0)
 
 -- "bus access and direct translation pass the reason on": the calls whose answer, of this kind and with this byte, can carry one. A
 -- direct translation is a register read of $3D
 pub data May-carry (kind byte : ℕ) : Call → Type 0 where
-  access : {code address : ℕ} {cycle : Cycle} → kind ≡ undefined → May-carry kind byte (Access code cycle address)
-  translation : {unit : ℕ} → kind ≡ byte-read → byte ≡ 0xFF → May-carry kind byte (Register unit 0x3D Read)
+  by-access : {code address : ℕ} {cycle : Cycle} → kind ≡ undefined → May-carry kind byte (Access code cycle address)
+  by-translation : {unit : ℕ} → kind ≡ byte-read → byte ≡ 0xFF → May-carry kind byte (Register unit 0x3D Read)

@@ -74,7 +74,7 @@ why-undefined = record {
       let m = made (histories.access a) in
       let o = stated c h (granted-told c b (rw (m .answered) at e) .long) m .fields in
       let w = access-reason function-code (cycle-by direction) address (read b) in
-      (λ u. w .unmatched (sym (o .kind) ∙ u), λ n. o .kind ∙ w .undefined (sym (o .refusal) ∙ e) n);
+      (λ u. w .unmatched (sym (o .kind) ∙ u), λ n. o .kind ∙ w .so-undefined (sym (o .refusal) ∙ e) n);
   no-match-exactly = λ {m} {b = b} h a e.
       let o = translated h a e in
       let t = translation-reason m (read b) (o .there) (o .clean .places .0) in
