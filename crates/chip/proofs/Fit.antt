@@ -11,8 +11,7 @@ use Rattle.registers.specs.Shared.{entry}
 use Rattle.registers.proofs.Numbers.{lsr-fits, gsr-fits, rdp-fits}
 use Rattle.chip.specs.System.{present, unit, descriptor, pointed, with-descriptor}
 use Rattle.chip.specs.Search.{number-of, in-unit, lip, searched, told-by, named, near-place, matching}
-use Rattle.chip.specs.Answer.{number, done, byte-read, mapped, violating, undefined, values, refused, granted}
-use Rattle.chip.specs.Answer.{of-kind, with-number, with-address, with-place, with-near, with-byte}
+use Rattle.chip.specs.Answer.{done, byte-read, mapped, violating, undefined, of-kind, carrying, values, refused, granted}
 use Rattle.chip.specs.Access.{writes, match-at}
 use Rattle.chip.specs.Transfer.{transfer}
 use Rattle.chip.specs.Load.{collision, load-at, load}
@@ -48,29 +47,12 @@ pub record Fit (v : Values) : Type 0 where
   pub byte : v .byte < 2 ^ 8
   pub address : v .address < 2 ^ 24
 
--- an answer of a kind, and with more values, by name
 kind-fits : (kind : ℕ) → kind < 2 ^ 4 → Fit (of-kind kind)
 kind-fits kind h = record { number = lit< tt; kind = h; unit = lit< tt; descriptor = lit< tt; byte = lit< tt; address = lit< tt }
 
-number-fits : (r : Refusal) (v : Values) → Fit v → Fit (with-number (number r) v)
-number-fits r v f =
-    record { number = refusal-told r .1; kind = f .kind; unit = f .unit; descriptor = f .descriptor; byte = f .byte; address = f .address }
-
-address-fits : (address : ℕ) (v : Values) → address < 2 ^ 24 → Fit v → Fit (with-address address v)
-address-fits address v h f =
-    record { number = f .number; kind = f .kind; unit = f .unit; descriptor = f .descriptor; byte = f .byte; address = h }
-
-place-fits : (i : ℕ) (win : Bool) (v : Values) → i < 192 → Fit v → Fit (with-place (i / 32) (i % 32) win v)
-place-fits i win v h f =
-    record { number = f .number; kind = f .kind; unit = omega arith; descriptor = omega arith; byte = f .byte; address = f .address }
-
-near-fits : (near : Near) (v : Values) → Small near → Fit v → Fit (with-near near v)
-near-fits near v h f =
-    record { number = f .number; kind = f .kind; unit = h .0; descriptor = h .1; byte = f .byte; address = f .address }
-
-byte-fits : (byte : ℕ) (v : Values) → byte < 2 ^ 8 → Fit v → Fit (with-byte byte v)
-byte-fits byte v h f =
-    record { number = f .number; kind = f .kind; unit = f .unit; descriptor = f .descriptor; byte = h; address = f .address }
+carrying-fits : (kind : ℕ) (near : Near) (byte : ℕ) → kind < 2 ^ 4 → Small near → byte < 2 ^ 8 → Fit (carrying kind near byte)
+carrying-fits kind near byte h n b =
+    record { number = lit< tt; kind = h; unit = n .0; descriptor = n .1; byte = b; address = lit< tt }
 
 abbrev Fits : Outcome → Type 0
 Fits o = Fit (values (o .answer))
@@ -81,8 +63,15 @@ unfolding match-at granted
 match-fits i cycle page number offset s o h =
     let d = descriptor s i in
     either Fits (writes cycle && protected d)
-    (λ e. place-fits i true _ h (kind-fits violating (lit< tt)))
-    (λ e. address-fits _ _ (omega (arith, gate-fits 16 (d .lam) page (d .pba))) (place-fits i (protected d) _ h (kind-fits mapped (lit< tt))))
+    (λ e. record { number = lit< tt; kind = lit< tt; unit = omega arith; descriptor = omega arith; byte = lit< tt; address = lit< tt })
+    (λ e. record {
+      number = lit< tt;
+      kind = lit< tt;
+      unit = omega arith;
+      descriptor = omega arith;
+      byte = lit< tt;
+      address = omega (arith, gate-fits 16 (d .lam) page (d .pba));
+    })
 
 -- 4.6.1: the byte of each register
 idp-fits : (f : Found) → number-of f < 2 ^ 8
@@ -126,10 +115,11 @@ read-fits registers.Null m s c h = (lit< tt, no-reason)
 
 pub performed-fit : (c : Call) (s : System) → Clean s → Fit (values (performed c s .answer))
 unfolding refused granted operate
-performed-fit c s k = outcome-law c s Fits (λ r. number-fits r _ (kind-fits 0 (lit< tt))) (go c)
+performed-fit c s k = outcome-law c s Fits refused-fits (go c)
   where
-    read-byte : (byte : ℕ) (near : Near) → byte < 2 ^ 8 → Small near → Fit (values (Byte byte near))
-    read-byte byte near h n = byte-fits byte _ h (near-fits near _ n (kind-fits byte-read (lit< tt)))
+    refused-fits : (r : Refusal) → Fits (refused r s)
+    refused-fits r =
+        record { number = refusal-told r .1; kind = lit< tt; unit = lit< tt; descriptor = lit< tt; byte = lit< tt; address = lit< tt }
 
     go : (c : Call) → none-of (checks c s) → Fits (carried-out c s)
     go (call.Start count selected) n = kind-fits done (lit< tt)
@@ -137,11 +127,12 @@ performed-fit c s k = outcome-law c s Fits (λ r. number-fits r _ (kind-fits 0 (
     go (call.Access code cycle address) n =
         translate-law code cycle address s Fits (λ i f. match-fits i cycle _ _ _ s (omega arith) (omega (arith, f .high)))
         (λ u.
-        let near = named (near-place (address / 256) (entry (s .shared) code) s) in
-        near-fits near (of-kind undefined) (near-small (address / 256) (entry (s .shared) code) s) (kind-fits undefined (lit< tt)))
+        let page = address / 256 in
+        let number = entry (s .shared) code in
+        carrying-fits undefined (named (near-place page number s)) 0 (lit< tt) (near-small page number s) (lit< tt))
     go (call.Register m address operation.Read) n =
         let r = register-at address in
         let fits = read-fits r m s k (counted-present m (s .shared .board .count) (n .0) (n .1 .0)) in
-        read-byte (read r m s .byte) (read r m s .near) (fits .0) (fits .1)
+        carrying-fits byte-read (read r m s .near) (read r m s .byte) (lit< tt) (fits .1) (fits .0)
     go (call.Register m address (operation.Write value)) n = kind-fits done (lit< tt)
-    go (call.Acknowledge m) n = read-byte _ Nothing (k .shared .ivr) no-reason
+    go (call.Acknowledge m) n = carrying-fits byte-read Nothing (s .shared .ivr) (lit< tt) no-reason (k .shared .ivr)

@@ -17,7 +17,7 @@ use Rattle.registers.specs.Unit.{flag, word, ac, for-translation}
 use Rattle.registers.specs.Shared.{entry}
 use Rattle.chip.specs.System.{present, unit, descriptor}
 use Rattle.chip.specs.Search.{matching, near-place, named, told-by, searched}
-use Rattle.chip.specs.Answer.{undefined as undefined-kind, byte-read, values, of-kind, with-near, named-by, refused, granted}
+use Rattle.chip.specs.Answer.{undefined as undefined-kind, byte-read, values, carrying, named-by, refused, granted}
 use Rattle.chip.specs.Access.{writes, match-at}
 use Rattle.chip.specs.Prepare.{prepare}
 use Rattle.chip.specs.Transfer.{transfer}
@@ -54,7 +54,7 @@ use Rattle.chip.proofs.Loading.{prepared, off}
 pub record Reasoned (page number : ℕ) (s : System) (o : Outcome) : Type 0 where
   pub unmatched : values (o .answer) .kind ≡ undefined-kind → Unmatched page number s
   pub so-undefined : values (o .answer) .number ≡ 0 → Unmatched page number s → values (o .answer) .kind ≡ undefined-kind
-  pub whole : values (o .answer) .kind ≡ undefined-kind → values (o .answer) ≡ with-near (named (near-place page number s)) (of-kind undefined-kind)
+  pub whole : values (o .answer) .kind ≡ undefined-kind → values (o .answer) ≡ carrying undefined-kind (named (near-place page number s)) 0
 
 module _ (code : ℕ) (cycle : Cycle) (address : ℕ) (s : System) where
   abbrev page : ℕ

@@ -41,85 +41,31 @@ violating = 4
 abbrev pub undefined : ℕ
 undefined = 5
 
--- An answer of this kind, with no other value; and with some of them, by name.
+-- An answer as numbers, column by column.
+abbrev pub row : (number kind address unit descriptor : ℕ) (win near : Bool) (byte : ℕ) → Values
+row number kind address unit descriptor win near byte =
+    record { number = number; kind = kind; address = address; unit = unit; descriptor = descriptor; win = win; near = near; byte = byte }
+
+-- an answer of this kind, with no other value
 abbrev pub of-kind : (kind : ℕ) → Values
-of-kind kind = record { number = 0; kind = kind; address = 0; unit = 0; descriptor = 0; win = false; near = false; byte = 0 }
+of-kind kind = row 0 kind 0 0 0 false false 0
 
-abbrev pub with-number : (number : ℕ) → Values → Values
-with-number number v = record {
-  number = number;
-  kind = v .kind;
-  address = v .address;
-  unit = v .unit;
-  descriptor = v .descriptor;
-  win = v .win;
-  near = v .near;
-  byte = v .byte;
-}
-
-abbrev pub with-address : (address : ℕ) → Values → Values
-with-address address v = record {
-  number = v .number;
-  kind = v .kind;
-  address = address;
-  unit = v .unit;
-  descriptor = v .descriptor;
-  win = v .win;
-  near = v .near;
-  byte = v .byte;
-}
-
-abbrev pub with-place : (unit descriptor : ℕ) (win : Bool) → Values → Values
-with-place unit descriptor win v = record {
-  number = v .number;
-  kind = v .kind;
-  address = v .address;
-  unit = unit;
-  descriptor = descriptor;
-  win = win;
-  near = v .near;
-  byte = v .byte;
-}
-
--- document 02, P4: and the unit and the descriptor that are near, and that there is one; else zero
+-- document 02, P4: the unit and the descriptor that are near, and whether there is one; and an answer of this kind that carries them
 abbrev pub named-by : Near → ℕ × ℕ × Bool
 named-by (Place unit descriptor) = (unit, descriptor, true)
 named-by Nothing = (0, 0, false)
 
-abbrev pub with-near : Near → Values → Values
-with-near near v =
-    let named = named-by near in
-    record {
-      number = v .number;
-      kind = v .kind;
-      address = v .address;
-      unit = named .0;
-      descriptor = named .1;
-      win = v .win;
-      near = named .2;
-      byte = v .byte;
-    }
+abbrev pub carrying : (kind : ℕ) → Near → (byte : ℕ) → Values
+carrying kind near byte = let n = named-by near in row 0 kind 0 (n .0) (n .1) false (n .2) byte
 
-abbrev pub with-byte : (byte : ℕ) → Values → Values
-with-byte byte v = record {
-  number = v .number;
-  kind = v .kind;
-  address = v .address;
-  unit = v .unit;
-  descriptor = v .descriptor;
-  win = v .win;
-  near = v .near;
-  byte = byte;
-}
-
--- the number of the refusal or zero, the kind, and the values of an answer; what a kind does not have is zero
+-- The table: the number of the refusal or zero, the kind, and the values of an answer; what a kind does not have is zero.
 abbrev pub values : Answer → Values
-values (Refused r) = with-number (number r) (of-kind 0)
+values (Refused r) = row (number r) 0 0 0 0 false false 0
 values Done = of-kind done
-values (Byte b near) = with-byte b (with-near near (of-kind byte-read))
-values (Mapped a u d w) = with-address a (with-place u d w (of-kind mapped))
-values (Violation u d w) = with-place u d w (of-kind violating)
-values (Undefined near) = with-near near (of-kind undefined)
+values (Byte b near) = carrying byte-read near b
+values (Mapped a u d w) = row 0 mapped a u d w false 0
+values (Violation u d w) = row 0 violating 0 u d w false 0
+values (Undefined near) = carrying undefined near 0
 
 -- a refusal: every other field is zero, the state is unchanged
 unfoldable pub refused : Refusal → System → Outcome

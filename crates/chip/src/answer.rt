@@ -1,6 +1,6 @@
 // The answers, and document 01's number and values for each.
 ghost use mathlib.Core.Path.{_≡_};
-ghost use Rattle.chip.specs.Answer.{number, of-kind, with-near, values, refused, granted, reading, miscounted};
+ghost use Rattle.chip.specs.Answer.{number, of-kind, carrying, values, refused, granted, reading, miscounted};
 use crate::search::Near;
 use crate::system::System;
 
@@ -106,7 +106,7 @@ impl Values {
 
     // And the unit and the descriptor that are near, if any are (document 02, P4).
     fn carrying(kind: u8, near: Near) -> Values
-        ensures { λ r. ⌜ r ≡ with-near near (of-kind kind) ⌝ }
+        ensures { λ r. ⌜ r ≡ carrying kind near 0 ⌝ }
     {
         let mut values = Values::of(kind);
         match near {
