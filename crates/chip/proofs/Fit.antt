@@ -1,6 +1,6 @@
 -- Every value that a call answers fits its field of the 64-bit answer, so that nothing is cut off. Assumes nothing.
-use Prim.Native.Nat.{ℕ, _/_, _%_, _^_, _<_}
-use mathlib.Core.Bool.{Bool, true, _&&_}
+use Prim.Native.Nat.{ℕ, _/_, _^_, _<_}
+use mathlib.Core.Bool.{_&&_}
 use native.Mathlib.Omega.{arith}
 use lib.Dec.{lit<}
 use Rattle.masks.proofs.Laws.{gate-fits}
@@ -11,7 +11,7 @@ use Rattle.registers.specs.Shared.{entry}
 use Rattle.registers.proofs.Numbers.{lsr-fits, gsr-fits, rdp-fits}
 use Rattle.chip.specs.System.{present, unit, descriptor, pointed, with-descriptor}
 use Rattle.chip.specs.Search.{number-of, in-unit, lip, searched, told-by, named, near-place, matching}
-use Rattle.chip.specs.Answer.{done, byte-read, mapped, violating, undefined, of-kind, carrying, values, refused, granted}
+use Rattle.chip.specs.Answer.{done, byte-read, undefined, of-kind, carrying, values, refused, granted}
 use Rattle.chip.specs.Access.{writes, match-at}
 use Rattle.chip.specs.Transfer.{transfer}
 use Rattle.chip.specs.Load.{collision, load-at, load}
@@ -31,7 +31,6 @@ use Rattle.chip.specs.declared.register.Register.{Register}
 use Rattle.chip.specs.declared.register.Register.the-variants as registers
 use Rattle.chip.specs.declared.register.Operation.the-variants as operation
 use Rattle.chip.specs.declared.answer.Refusal.{Refusal}
-use Rattle.chip.specs.declared.answer.Answer.the-variants.{Byte}
 use Rattle.chip.specs.declared.answer.Outcome.{Outcome}
 use Rattle.chip.specs.declared.answer.Reading.{Reading}
 use Rattle.chip.specs.declared.answer.Values.{Values}
