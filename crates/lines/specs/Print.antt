@@ -12,7 +12,7 @@ use Rattle.chip.specs.declared.answer.Values.{Values}
 abbrev pub flag : Bool → ℕ
 flag b = cond b (byte "1") (byte "0")
 
--- IRQ ends the line of any answer that is no refusal
+-- IRQ ends the line of any answer but a refusal and U
 abbrev pub ended : (irq : Bool) → List ℕ
 ended irq = ascii " " ++ flag irq ∷ ascii "\n"
 

@@ -29,7 +29,7 @@ fn named(text: Text, values: Values) -> Text
     )
 }
 
-// How the lines of answers end: with IRQ; P and V with the unit, the descriptor and WIN before it.
+// How the lines of answers end, but for U: with IRQ; P and V with the unit, the descriptor and WIN before it.
 fn ended(text: Text, irq: bool) -> Text
     ensures { λ r. ⌜ r ≡ with-bytes text (ended irq) ⌝ }
 {
