@@ -220,14 +220,21 @@ static model_descriptor any_segment(mix *x)
     return d;
 }
 
+/* A copy of an enabled one, or false and some segment where none is. */
+static bool enabled_copy(mix *x, const model *m, model_descriptor *d)
+{
+    unsigned unit, number;
+    const model_descriptor *found = mix_enabled(x, m, &unit, &number);
+    *d = found == NULL ? small_segment(x) : *found;
+    return found != NULL;
+}
+
 /* One bit away from an enabled one: just apart, or just not. */
 static model_descriptor neighbour(mix *x, const model *m)
 {
-    unsigned unit, number;
-    const model_descriptor *near = mix_enabled(x, m, &unit, &number);
-    if (near == NULL)
-        return small_segment(x);
-    model_descriptor d = *near;
+    model_descriptor d;
+    if (!enabled_copy(x, m, &d))
+        return d;
     switch (mix_below(x, 5)) {
     case 0:
         d.lba ^= (uint16_t)(1u << mix_below(x, 16));
@@ -252,12 +259,10 @@ static model_descriptor neighbour(mix *x, const model *m)
  * then more than one that has the page. */
 static model_descriptor sharing(mix *x, const model *m)
 {
-    unsigned unit, number;
-    const model_descriptor *with = mix_enabled(x, m, &unit, &number);
-    if (with == NULL)
-        return small_segment(x);
-    model_descriptor d = *with;
-    d.asn = mix_other_number(x, with);
+    model_descriptor d;
+    if (!enabled_copy(x, m, &d))
+        return d;
+    d.asn = mix_other_number(x, &d);
     d.asm_ = 0xFF;
     return d;
 }
