@@ -1,3 +1,4 @@
+#![tactic(auto)]
 // The bench: reads lines on standard input to its end, and writes one for each. Document 01, "The bench program".
 use chip::system::System;
 use libc::{STDIN_FILENO, STDOUT_FILENO};

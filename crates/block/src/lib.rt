@@ -1,2 +1,3 @@
+#![tactic(auto)]
 pub mod read;
 pub mod write;

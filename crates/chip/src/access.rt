@@ -15,7 +15,7 @@ use registers::unit;
 use registers::unit::Change;
 
 // A bus cycle as the chip sees it (R/W).
-#[derive(Drop)]
+#[derive(Clone, Copy)]
 pub enum Cycle {
     Read,
     Write,

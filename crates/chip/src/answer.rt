@@ -6,7 +6,7 @@ use crate::search::Near;
 use crate::system::System;
 
 // What a host gets back in place of an answer.
-#[derive(Drop)]
+#[derive(Clone, Copy)]
 pub enum Refusal {
     Count,
     Unit,
@@ -16,7 +16,7 @@ pub enum Refusal {
     Interrupt,
 }
 
-#[derive(Drop)]
+#[derive(Clone, Copy)]
 pub enum Answer {
     Refused(Refusal),
     Done,
@@ -50,7 +50,7 @@ pub const VIOLATION: u8 = 4;
 pub const UNDEFINED: u8 = 5;
 
 // An answer as numbers: what a kind of answer does not have is zero.
-#[derive(Drop)]
+#[derive(Clone, Copy)]
 pub struct Values {
     pub number: u8,
     pub kind: u8,

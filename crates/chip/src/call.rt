@@ -8,7 +8,7 @@ use crate::register::Operation;
 use crate::reset::Selected;
 use crate::system::System;
 
-#[derive(Drop)]
+#[derive(Clone, Copy)]
 pub enum Call {
     Start {
         count: u64,

@@ -1,3 +1,4 @@
+#![tactic(auto)]
 pub mod access;
 pub mod acknowledge;
 pub mod answer;

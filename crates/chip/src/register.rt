@@ -14,7 +14,7 @@ use registers::unit;
 use registers::unit::Change;
 
 // A row of the table.
-#[derive(Drop)]
+#[derive(Clone, Copy)]
 pub enum Register {
     Ast(usize),
     Ac(usize),
@@ -31,7 +31,7 @@ pub enum Register {
 }
 
 // A read, or a write of the byte on the bus.
-#[derive(Drop)]
+#[derive(Clone, Copy)]
 pub enum Operation {
     Read,
     Write(u8),

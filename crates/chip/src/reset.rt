@@ -18,7 +18,7 @@ use registers::unit;
 use registers::unit::{Byte, Change, Unit};
 
 // The unit that is chip-selected during reset, if any.
-#[derive(Drop)]
+#[derive(Clone, Copy)]
 pub enum Selected {
     Unit(u64),
     Nobody,

@@ -9,28 +9,28 @@ use descriptors::status;
 use registers::unit;
 
 // What is sought of a descriptor.
-#[derive(Drop)]
+#[derive(Clone, Copy)]
 pub enum Sought {
     Clash(Descriptor),
     Pending,
 }
 
 // A place among the 192.
-#[derive(Drop)]
+#[derive(Clone, Copy)]
 pub enum Found {
     At(usize),
     Nowhere,
 }
 
 // The lowest descriptor whose space alone differs, if there is one (document 02, P4).
-#[derive(Drop)]
+#[derive(Clone, Copy)]
 pub enum Near {
     Place { unit: u8, descriptor: u8 },
     Nothing,
 }
 
 // What a search for a match tells.
-#[derive(Drop)]
+#[derive(Clone, Copy)]
 pub enum Search {
     Match(usize),
     NoMatch(Near),

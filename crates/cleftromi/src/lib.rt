@@ -1,3 +1,4 @@
+#![tactic(auto)]
 // The functions that a C host calls, over the block that it lends and numbers of 64 bits.
 ghost use Rattle.std.specs.Prelude.{◌≡◌};
 ghost use Rattle.chip.specs.declared.call.Call.TheVariants.{Start, Reset, Access, Register, Acknowledge};

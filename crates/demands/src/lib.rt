@@ -1,1 +1,2 @@
+#![tactic(auto)]
 // No code: what follows from the promises of the crates below.

@@ -7,7 +7,7 @@ use crate::status;
 use masks::{byte, word};
 
 // The nine bytes, in accumulator order (Table 3-1).
-#[derive(Drop)]
+#[derive(Clone, Copy)]
 pub struct Descriptor {
     pub lba: u16,
     pub lam: u16,
@@ -18,7 +18,7 @@ pub struct Descriptor {
 }
 
 // Whether a descriptor matches, and if not, why (document 02, P4).
-#[derive(Drop)]
+#[derive(Clone, Copy)]
 pub enum Match {
     Yes,
     Disabled,

@@ -1,2 +1,3 @@
+#![tactic(auto)]
 pub mod descriptor;
 pub mod status;

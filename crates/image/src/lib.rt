@@ -1,3 +1,4 @@
+#![tactic(auto)]
 pub mod block;
 pub mod read;
 pub mod rules;

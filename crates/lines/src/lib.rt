@@ -1,3 +1,4 @@
+#![tactic(auto)]
 pub mod line;
 pub mod print;
 pub mod turn;

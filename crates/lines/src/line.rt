@@ -8,7 +8,7 @@ use chip::register::Operation;
 use chip::reset::Selected;
 use text::digits;
 
-#[derive(Drop)]
+#[derive(Clone, Copy)]
 pub enum Line {
     Called(Call),
     Bad,

@@ -1,3 +1,4 @@
+#![tactic(auto)]
 // Bytes that are written and read piece by piece.
 ghost use Rattle.std.specs.Prelude.{◌≡◌, min, length};
 ghost use Rattle.pieces.specs.Pieces.{join, zeroed};

@@ -1,2 +1,3 @@
+#![tactic(auto)]
 pub mod shared;
 pub mod unit;

@@ -8,7 +8,7 @@ const DF: u8 = 1 << 6;
 
 const IE: u8 = 1 << 0;
 
-#[derive(Drop)]
+#[derive(Clone, Copy)]
 pub struct Gsr {
     pub f: bool,
     pub df: bool,
@@ -16,12 +16,12 @@ pub struct Gsr {
 }
 
 // What the board is: how many units it has.
-#[derive(Drop)]
+#[derive(Clone, Copy)]
 pub struct Board {
     pub count: usize,
 }
 
-#[derive(Drop)]
+#[derive(Clone, Copy)]
 pub struct Shared {
     pub table: [u8; 16],
     pub gsr: Gsr,

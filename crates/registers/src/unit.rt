@@ -26,13 +26,13 @@ pub const NONE: u8 = 0x80;
 const RW: u8 = 1 << 3;
 
 // A byte of the accumulator, and whether it was last modified as a result of a global write (3.2.4).
-#[derive(Drop)]
+#[derive(Clone, Copy)]
 pub struct Byte {
     pub value: u8,
     pub global: bool,
 }
 
-#[derive(Drop)]
+#[derive(Clone, Copy)]
 pub struct Unit {
     pub accumulator: [Byte; 9],
     pub dp: u8,
@@ -42,14 +42,14 @@ pub struct Unit {
 }
 
 // The accumulator bytes that all units must have alike, for one operation or the other (3.2.4).
-#[derive(Drop)]
+#[derive(Clone, Copy)]
 pub enum Bytes {
     Translation,
     Load,
 }
 
 // What an event does to every unit alike.
-#[derive(Drop)]
+#[derive(Clone, Copy)]
 pub enum Change {
     Ac(usize, u8),
     Dp(u8),

@@ -1,3 +1,4 @@
+#![tactic(auto)]
 // A line of ASCII bytes as it is held, and the digits in it.
 pub mod digits;
 
@@ -9,7 +10,7 @@ ghost use Rattle.text.specs.Text.{empty, is_empty, pushed, with_bytes, text};
 const ROOM: usize = 22;
 
 // The first `length` bytes are held. It goes by value: it is small.
-#[derive(Drop)]
+#[derive(Clone, Copy)]
 pub struct Text {
     pub bytes: [u8; ROOM],
     pub length: usize,
