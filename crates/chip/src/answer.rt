@@ -63,7 +63,7 @@ pub struct Values {
 }
 
 // The whole system after a call, the answer, and the interrupt request as it then stands.
-#[derive(Drop)]
+#[derive(Clone, Copy)]
 pub struct Outcome {
     pub system: System,
     pub answer: Answer,
@@ -71,7 +71,7 @@ pub struct Outcome {
 }
 
 // The whole system after a read, and the byte that it answers; a direct translation that finds no match has a reason (P4).
-#[derive(Drop)]
+#[derive(Clone, Copy)]
 pub struct Reading {
     pub system: System,
     pub byte: u8,

@@ -39,6 +39,7 @@ pub enum Operation {
 
 impl Register {
     // The row of an address; any other is a null operation.
+    #[tactic(auto, unfolding(crate::specs::Register::register_at))]
     fn at(address: u64) -> Register
         ensures { result ≡ register_at address }
     {

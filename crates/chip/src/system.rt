@@ -8,7 +8,7 @@ use registers::shared::Shared;
 use registers::unit::{Change, Unit};
 
 // The numbers of what is shared stand between the two arrays, so that a compiler moves each of them as one piece.
-#[derive(Drop)]
+#[derive(Clone, Copy)]
 pub struct System {
     pub units: [Unit; 6],
     pub shared: Shared,

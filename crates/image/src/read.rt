@@ -23,7 +23,7 @@ pub const CHECK: u8 = 9;
 pub const FIELDS: u8 = 10;
 
 // Zero and the system of an image that is accepted, or its refusal and no unit.
-#[derive(Drop)]
+#[derive(Clone, Copy)]
 pub struct Restored {
     pub refusal: u8,
     pub system: System,

@@ -9,7 +9,7 @@ use chip::system::System;
 use text::Text;
 
 // What is printed for a line, and the whole system after it.
-#[derive(Drop)]
+#[derive(Clone, Copy)]
 pub struct Turn {
     pub text: Text,
     pub system: System,

@@ -1,0 +1,6 @@
+-- `System::nothing` meets its contract. Assumes nothing.
+use Rattle.masks.proofs.Free.{free}
+use Rattle.chip.proofs.system.System.nothing.Goals as goal
+
+pub returns : goal.returns
+returns c = rw (c.blank-unit.ensures, c.zeros-descriptor.ensures)

@@ -1,0 +1,6 @@
+-- `System::pointed` meets its contract. Assumes nothing.
+use borrow.Author.Rules.{rules}
+use Rattle.chip.proofs.system.System.pointed.Goals as goal
+
+pub returns : goal.returns
+returns c = rw c.unit-unit.ensures
