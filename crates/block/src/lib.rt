@@ -1,3 +1,4 @@
 #![tactic(auto)]
+
 pub mod read;
 pub mod write;

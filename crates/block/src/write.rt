@@ -42,7 +42,7 @@ fn put_unit(b: &mut [u8], u: Unit)
     ensures { b.new ≡ unit_bytes u ++ drop 16 b.old }
 {
     let values = u.values();
-    bytes::copy(&values, b);
+    b[..9].copy_from_slice(&values);
     let marks = u.marks();
     b[9] = (marks % 256) as u8;
     b[10] = (marks / 256) as u8;
@@ -72,7 +72,7 @@ fn put_shared(b: &mut [u8], shared: Shared)
     b[1] = shared.gsr.byte();
     b[2] = shared.ivr;
     let table = shared.table;
-    bytes::copy(&table, &mut b[16..]);
+    b[16..32].copy_from_slice(&table);
 }
 
 pub fn write(b: &mut [u8], system: System)

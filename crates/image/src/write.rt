@@ -25,7 +25,7 @@ fn put_head(b: &mut [u8], m: usize, shared: Shared)
     b[0] = m as u8;
     b[1] = (shared.board.count % 256) as u8;
     let table = shared.table;
-    bytes::copy(&table, &mut b[2..]);
+    b[2..18].copy_from_slice(&table);
 }
 
 // Bytes 18 to 33: the accumulator, its marks, and the other registers.
@@ -34,7 +34,7 @@ fn put_unit(b: &mut [u8], u: Unit, shared: Shared)
     ensures { b.new ≡ (list_of 9 (ac u) ++ high_first (marks u) ++ u.dp ∷ shared.ivr ∷ gsr_byte shared.gsr ∷ held_lsr u ∷ u.rdp ∷ []) ++ drop 16 b.old }
 {
     let values = u.values();
-    bytes::copy(&values, b);
+    b[..9].copy_from_slice(&values);
     let marks = u.marks();
     b[9] = (marks / 256) as u8;
     b[10] = (marks % 256) as u8;
@@ -53,7 +53,7 @@ fn put_descriptors(b: &mut [u8], descriptors: [Descriptor; 192], m: usize)
     for n in 0..32 {
         let at = 9 * n;
         let nine = descriptors[32 * m + n].bytes();
-        bytes::copy(&nine, &mut b[at..]);
+        b[at..at + 9].copy_from_slice(&nine);
     }
 }
 

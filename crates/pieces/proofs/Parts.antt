@@ -61,10 +61,10 @@ further_zeros p e b t n k m h l j g =
     let long : k ≤ length (take (length b - n) (drop n b)) = simp (length-take, length-drop) (omega (arith, size, h.0)) in
     further p (replicate k 0) e b t n k m h (length-replicate k 0) j (g ∙ zeroed_front k _ long)
 
--- the same, of a part that the k bytes x are copied to
-pub further_copy : (p x e b t : List ℕ) (n k m : ℕ) → Front p n e b → length x ≡ k → n + k ≡ m
-    → t ≡ take (length x) x ++ drop (length x) (take (length b - n) (drop n b)) → Front (p ++ x) m e (put_mid n (length b - n) b t)
-further_copy p x e b t n k m h l j g = further p x e b t n k m h l j (g ∙ rw (l, take_all k x (omega (arith, l))))
+-- k bytes from n on, which become the k bytes x
+pub further_copy : (p x e b t : List ℕ) (n k m : ℕ) → Front p n e b → length x ≡ k → n + k ≡ m → t ≡ x → Front (p ++ x) m e (put_mid n k b t)
+further_copy p x e b t n k m h l j g =
+    (length-append p x ∙ omega (arith, h.0), rw (g, h.1, take_at p (drop n e) n h.0, drop_at p (drop n e) n h.0, drop-drop, j, append_assoc))
 
 -- stores from n on, one after the other
 pub further_stores : (p vs e b : List ℕ) (n m : ℕ) → Front p n e b → n + length vs ≡ m → m ≤ length e → Front (p ++ vs) m e (sets b n vs)

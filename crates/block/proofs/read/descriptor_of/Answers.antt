@@ -1,0 +1,16 @@
+-- `descriptor_of` meets its contract: each field from its bytes. Assumes nothing.
+use borrow.Author.Rules.{rules}
+use Rattle.block.specs.Layout.{descriptor_of}
+use Rattle.masks.proofs.Free.{free}
+use Rattle.block.proofs.read.descriptor_of.Goals as goal
+
+pub returns : goal.returns
+unfolding descriptor_of
+returns c =
+    let words = c in
+    rw (
+      words.join.ensures,
+      words.join-2.ensures,
+      words.join-3.ensures,
+      c.clean.ensures,
+    )

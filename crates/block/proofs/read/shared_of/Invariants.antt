@@ -1,0 +1,17 @@
+-- What the loop of `shared_of` keeps.
+use borrow.Author.Rules.{rules}
+use native.Mathlib.Omega.{arith}
+use Prim.Native.Nat.{◌≤◌, ◌-◌}
+use mathlib.Core.Path.{◌≡◌, refl}
+use mathlib.Core.List.{◌++◌, append-nil}
+use lib.ListN.{take, drop, replicate, length-drop}
+use lib.Seq.{get_or-drop}
+use Rattle.block.specs.Layout.{shared_of}
+use Rattle.pieces.proofs.Parts.{copied_more}
+use Rattle.block.proofs.read.shared_of.Given as goal
+
+abbrev pub invariant-loop-i : goal.invariant-loop-i
+invariant-loop-i l = (l.i ≤ 16) × (l.table ≡ take l.i (drop 16 l.b) ++ drop l.i (replicate 16 0))
+
+abbrev pub decreases-loop-i : goal.decreases-loop-i
+decreases-loop-i l = 16 - l.i

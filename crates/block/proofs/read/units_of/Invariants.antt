@@ -1,0 +1,17 @@
+-- What the loop of `units_of` keeps.
+use native.Mathlib.Omega.{arith}
+use Prim.Native.Nat.{◌-◌}
+use mathlib.Core.Path.{◌∙◌}
+use lib.ListN.{drop, length-take, length-drop}
+use Rattle.registers.specs.Unit.{no_unit}
+use Rattle.block.specs.Layout.{unit_place, unit_of}
+use Rattle.pieces.proofs.Parts.{rest}
+use Rattle.chip.proofs.Each.{Filling, begun, next, ended}
+use Rattle.masks.proofs.Free.{free}
+use Rattle.block.proofs.read.units_of.Given as goal
+
+abbrev pub invariant-loop-m : goal.invariant-loop-m
+invariant-loop-m l = Filling l.n (λ k. unit_of (drop (unit_place k) l.b)) l.initial.units l.units l.m
+
+abbrev pub decreases-loop-m : goal.decreases-loop-m
+decreases-loop-m l = l.n - l.m

@@ -1,0 +1,15 @@
+-- What the loop of `put_descriptors` keeps.
+use native.Mathlib.Omega.{arith}
+use Prim.Native.Nat.{◌-◌}
+use mathlib.Core.Path.{refl}
+use lib.ListN.{get_or, length-take, length-drop}
+use Rattle.descriptors.specs.Descriptor.{zeros}
+use Rattle.block.specs.Layout.{descriptor_bytes}
+use Rattle.pieces.proofs.Parts.{Done, begun, next, ended}
+use Rattle.block.proofs.write.put_descriptors.Given as goal
+
+abbrev pub invariant-loop-i : goal.invariant-loop-i
+invariant-loop-i l = Done 9 (λ k. descriptor_bytes (get_or l.descriptors k zeros)) l.n l.initial.b l.b l.i
+
+abbrev pub decreases-loop-i : goal.decreases-loop-i
+decreases-loop-i l = l.n - l.i

@@ -1,0 +1,15 @@
+-- What the loop of `put_units` keeps.
+use native.Mathlib.Omega.{arith}
+use Prim.Native.Nat.{◌-◌}
+use mathlib.Core.Path.{refl}
+use lib.ListN.{get_or, length-take, length-drop}
+use Rattle.registers.specs.Unit.{no_unit}
+use Rattle.block.specs.Layout.{unit_bytes}
+use Rattle.pieces.proofs.Parts.{Done, begun, next, ended}
+use Rattle.block.proofs.write.put_units.Given as goal
+
+abbrev pub invariant-loop-m : goal.invariant-loop-m
+invariant-loop-m l = Done 16 (λ k. unit_bytes (get_or l.units k no_unit)) l.n l.initial.b l.b l.m
+
+abbrev pub decreases-loop-m : goal.decreases-loop-m
+decreases-loop-m l = l.n - l.m
