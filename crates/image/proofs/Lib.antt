@@ -8,3 +8,4 @@ pub mod Cut
 pub mod Owned
 pub mod Again
 pub mod Back
+pub mod Marks

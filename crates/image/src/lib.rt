@@ -1,4 +1,5 @@
 #![tactic(auto)]
+
 pub mod block;
 pub mod read;
 pub mod rules;

@@ -4,7 +4,7 @@
 --     appended     a part lent to a function that writes its front
 --     further, further_zeros, further_copy    the same, for one part after the other
 --     further_stores    stores behind what is written
---     begun, next, ended    a loop that lends the part from w * m on to a function that writes piece m
+--     begun, next, placed, ended    a loop that lends the part from w * m on to a function that writes piece m, or copies piece m there
 --     pieces_at    where piece m stands
 -- Assumes nothing.
 use Prim.Native.Nat.{ℕ, zero, suc, ◌+◌, ◌*◌, ◌-◌, ◌<◌, ◌≤◌}
@@ -98,6 +98,17 @@ next w f h n e b t m d l k q =
       omega arith,
       same_len_mid (w * m) (length b - w * m) b t k ∙ d.1,
       rw (more, add-one) (appended (pieces m f) (f m) e b t (w * m) w (length_pieces w f h m) d.2 q),
+    )
+
+-- the same, where piece m is copied
+pub placed : (w : ℕ) (f : ℕ → List ℕ) → ((i : ℕ) → length (f i) ≡ w) → (n : ℕ) (e b t : List ℕ) (m k : ℕ) → k ≡ w → Done w f n e b m → m < n
+    → length t ≡ length (take k (drop (w * m) b)) → t ≡ f m → Done w f n e (put_mid (w * m) k b t) (m + 1)
+unfolding pieces
+placed w f h n e b t m k whole d l g q =
+    let more : w * (m + 1) ≡ w * m + w = omega arith in (
+      omega arith,
+      same_len_mid (w * m) k b t g ∙ d.1,
+      rw (whole, more, add-one) (further_copy (pieces m f) (f m) e b t (w * m) w (w * m + w) (length_pieces w f h m, d.2) (h m) refl q).1,
     )
 
 pub ended : (w : ℕ) (f : ℕ → List ℕ) (n : ℕ) (e b : List ℕ) (m : ℕ) → Done w f n e b m → n ≤ m → b ≡ pieces n f ++ drop (w * n) e

@@ -1,0 +1,13 @@
+-- What the loop of `apart_below` keeps.
+use Rattle.std.proofs.Common.{◌-◌, not, ◌&&◌, get_or, sym, refl, ◌∙◌, arith}
+use borrow.Author.Tests.{not-true, not-false}
+use Rattle.masks.proofs.Bits.{every_at}
+use Rattle.descriptors.specs.Descriptor.{zeros, enabled, collides}
+use Rattle.masks.proofs.Every.{Tried, begun, next, failed, ended}
+use Rattle.image.proofs.rules.apart_below.Given as goal
+
+abbrev pub invariant-loop-k : goal.invariant-loop-k
+invariant-loop-k l = Tried l.i (λ j. not (enabled l.d && collides l.d (get_or l.descriptors j zeros))) l.k
+
+abbrev pub decreases-loop-k : goal.decreases-loop-k
+decreases-loop-k l = l.i - l.k

@@ -1,0 +1,13 @@
+-- What the loop of `same_marked` keeps.
+use Rattle.std.proofs.Common.{◌≡◌, ◌-◌, Bool, true, false, not, ◌&&◌, ◌||◌, eqb, get_or, refl, ap, ◌∙◌, arith}
+use Rattle.registers.specs.Unit.{local}
+use Rattle.registers.specs.declared.unit.Byte.{Byte}
+use Rattle.masks.proofs.Every.{Tried, begun, next, failed, ended}
+use Rattle.image.proofs.Marks.{rule}
+use Rattle.image.proofs.rules.same_marked.Given as goal
+
+abbrev pub invariant-loop-i : goal.invariant-loop-i
+invariant-loop-i l = Tried 9 (λ k. rule (get_or l.a k (local 0)) (get_or l.b k (local 0))) l.i
+
+abbrev pub decreases-loop-i : goal.decreases-loop-i
+decreases-loop-i l = 9 - l.i

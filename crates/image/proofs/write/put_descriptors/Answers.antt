@@ -1,0 +1,18 @@
+-- `put_descriptors` meets its contract: a piece of 9 bytes in each turn. Assumes nothing.
+use Rattle.std.proofs.Common.{◌+◌, ◌-◌, ◌*◌, get_or, refl, ◌∙◌, arith, length-drop, length-take, rules}
+use Rattle.descriptors.specs.Descriptor.{zeros, bytes}
+use Rattle.masks.proofs.Free.{free}
+use Rattle.pieces.proofs.Parts.{Done, begun, placed, ended}
+use Rattle.image.proofs.write.put_descriptors.Goals as goal
+
+pub loop-n-preserved : goal.loop-n-preserved
+loop-n-preserved c =
+    let at = c.loop-n in
+    let put = c.copy_from_slice in
+    placed 9 _ (λ k. refl) _ _ at.b put.new.self at.n _ (omega arith) at.invariant (omega arith) put.ensures.len (put.ensures.after ∙ rw c.bytes-nine.ensures refl)
+
+pub returns : goal.returns
+returns c = ended 9 _ _ _ _ _ c.loop-n.invariant c.loop-n-test.false
+
+pub loop-n-init : goal.loop-n-init
+loop-n-init c = begun 9 _ _ _

@@ -1,0 +1,15 @@
+-- `put_head` meets its contract: two stores, then the table. Assumes nothing.
+use Rattle.std.proofs.Common.{◌≡◌, ℕ, ◌-◌, ◌%◌, List, [], ◌∷◌, length, set, refl, ◌∙◌, arith, length-drop, length-set, length-take, rules}
+use borrow.Rule.Slice.PartMut.{same_len_mid}
+use Rattle.pieces.proofs.Parts.{further_stores, further_copy}
+use Rattle.image.proofs.write.put_head.Goals as goal
+
+pub returns : goal.returns
+returns c =
+    let start = c in
+    let h = start.args.shared in
+    let e = start.args.b.now in
+    let two : List ℕ = start.args.m ∷ h.board.count % 256 ∷ [] in
+    let size : length h.table ≡ 16 = search rules in
+    (further_copy two h.table e _ c.copy_from_slice.new.self 2 16 18
+    (further_stores [] two e e 0 2 (refl, refl) refl (omega arith)) size refl c.copy_from_slice.ensures.after).1
