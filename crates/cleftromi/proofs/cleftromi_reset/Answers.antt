@@ -1,0 +1,7 @@
+-- `cleftromi_reset` meets its contract: the call by its name. Assumes nothing.
+use borrow.Author.Rules.{rules}
+use Rattle.masks.proofs.Free.{free}
+use Rattle.cleftromi.proofs.cleftromi_reset.Goals as goal
+
+pub returns : goal.returns
+returns c = rw (← c.selected_by-selected.ensures) c.run.ensures

@@ -1,0 +1,42 @@
+-- `run` meets its contract: the tests in their order, then what the callees ensure. Assumes nothing.
+use borrow.Author.Rules.{rules}
+use borrow.Author.Tests.{eq-eqb, ne_eqb}
+use mathlib.Core.Path.{refl, sym, ◌∙◌}
+use Rattle.cleftromi.specs.Interface.{answer, after}
+use Rattle.cleftromi.proofs.Blocks.{long_answer, long_after}
+use Rattle.masks.proofs.Free.{free}
+use Rattle.cleftromi.proofs.run.Goals as goal
+
+pub returns-then-short : goal.returns-then-short
+unfolding answer after
+returns-then-short c = rw (sym c.short.ensures ∙ c.if-short.true) record { value = refl; state_after = refl }
+
+pub returns-then-values-ne0 : goal.returns-then-values-ne0
+returns-then-values-ne0 c =
+    let called = c in
+    let tested = called in
+    let long = sym tested.short.ensures ∙ tested.if-short.false in
+    rw (
+      long_answer _ _ long,
+      long_after _ _ long,
+      ← called.read.ensures,
+      ← called.perform-outcome.ensures,
+      ← called.values-values.ensures,
+      ne_eqb _ _ c.if-values-ne0.true,
+    )
+    record { value = called.number_of-number.ensures; state_after = refl }
+
+pub returns : goal.returns
+returns c =
+    let called = c in
+    let tested = called in
+    let long = sym tested.short.ensures ∙ tested.if-short.false in
+    rw (
+      long_answer _ _ long,
+      long_after _ _ long,
+      ← called.read.ensures,
+      ← called.perform-outcome.ensures,
+      ← called.values-values.ensures,
+      eq-eqb _ _ c.if-values-ne0.false,
+    )
+    record { value = called.number_of-number.ensures; state_after = c.write.ensures }
