@@ -109,8 +109,7 @@ fn finish(state: &mut [u8], outcome: Outcome) -> u64
     number
 }
 
-#[unsafe(no_mangle)]
-pub extern "C" fn cleftromi_start(state: &mut [u8], units: u64, selected: u64) -> u64
+pub fn cleftromi_start(state: &mut [u8], units: u64, selected: u64) -> u64
     ensures value { result ≡ answer (Start units (selected_by selected)) state.old }
     ensures state_after { state.new ≡ after (Start units (selected_by selected)) state.old }
 {
@@ -122,8 +121,7 @@ pub extern "C" fn cleftromi_start(state: &mut [u8], units: u64, selected: u64) -
     run(state, call)
 }
 
-#[unsafe(no_mangle)]
-pub extern "C" fn cleftromi_reset(state: &mut [u8], selected: u64) -> u64
+pub fn cleftromi_reset(state: &mut [u8], selected: u64) -> u64
     ensures value { result ≡ answer (Reset (selected_by selected)) state.old }
     ensures state_after { state.new ≡ after (Reset (selected_by selected)) state.old }
 {
@@ -131,13 +129,7 @@ pub extern "C" fn cleftromi_reset(state: &mut [u8], selected: u64) -> u64
     run(state, Call::Reset { selected })
 }
 
-#[unsafe(no_mangle)]
-pub extern "C" fn cleftromi_access(
-    state: &mut [u8],
-    function_code: u64,
-    direction: u64,
-    address: u64,
-) -> u64
+pub fn cleftromi_access(state: &mut [u8], function_code: u64, direction: u64, address: u64) -> u64
     ensures value { result ≡ answer (Access function_code (cycle_by direction) address) state.old }
     ensures state_after { state.new ≡ after (Access function_code (cycle_by direction) address) state.old }
 {
@@ -150,8 +142,7 @@ pub extern "C" fn cleftromi_access(
     run(state, call)
 }
 
-#[unsafe(no_mangle)]
-pub extern "C" fn cleftromi_register(
+pub fn cleftromi_register(
     state: &mut [u8],
     unit: u64,
     address: u64,
@@ -170,16 +161,14 @@ pub extern "C" fn cleftromi_register(
     run(state, call)
 }
 
-#[unsafe(no_mangle)]
-pub extern "C" fn cleftromi_acknowledge(state: &mut [u8], unit: u64) -> u64
+pub fn cleftromi_acknowledge(state: &mut [u8], unit: u64) -> u64
     ensures value { result ≡ answer (Acknowledge unit) state.old }
     ensures state_after { state.new ≡ after (Acknowledge unit) state.old }
 {
     run(state, Call::Acknowledge { unit })
 }
 
-#[unsafe(no_mangle)]
-pub extern "C" fn cleftromi_save(state: &mut [u8], image: &mut [u8]) -> u64
+pub fn cleftromi_save(state: &mut [u8], image: &mut [u8]) -> u64
     ensures value { result ≡ save_answer state.old image.old }
     ensures state_after { state.new ≡ save_after state.old image.old }
     ensures image_after { image.new ≡ save_image state.old image.old }
@@ -195,8 +184,7 @@ pub extern "C" fn cleftromi_save(state: &mut [u8], image: &mut [u8]) -> u64
     finish(state, system.granted(Answer::Done))
 }
 
-#[unsafe(no_mangle)]
-pub extern "C" fn cleftromi_restore(state: &mut [u8], image: &[u8]) -> u64
+pub fn cleftromi_restore(state: &mut [u8], image: &[u8]) -> u64
     ensures value { result ≡ restore_answer state.old image.now }
     ensures state_after { state.new ≡ restore_after state.old image.now }
 {
