@@ -1,4 +1,5 @@
 #![tactic(auto)]
+
 pub mod line;
 pub mod print;
 pub mod turn;

@@ -6,8 +6,7 @@ use borrow.Author.Tests.{ne_eqb}
 use Rattle.text.specs.Ascii.{byte}
 use Rattle.chip.specs.declared.access.Cycle.TheVariants.{Read, Write, ReadModifyWrite}
 use Rattle.lines.specs.Line.{direction}
-use Rattle.lines.proofs.line.direction.Statement.{statement}
-use Rattle.lines.proofs.line.direction.Tie as tie
+use Rattle.lines.proofs.line.direction.Goals as goal
 
 reads : (c : ℕ) → c ≡ byte "R" → Read ≡ direction c
 reads c e = rw e refl
@@ -18,7 +17,11 @@ modifies c e = rw e refl
 writes : (c : ℕ) → c ≢ byte "R" → c ≢ byte "M" → Write ≡ direction c
 writes c n m = rw (ne_eqb _ _ n, ne_eqb _ _ m) refl
 
-pub direction_spec : {M : Type 1} → statement M
-direction_spec =
-    tie.close
-    (tie.spec (λ c. reads _ c.if1.true) (λ c. modifies _ c.if2.true) (λ c. writes _ c.before.if1.false c.if2.false))
+pub returns-then-c-eq82 : goal.returns-then-c-eq82
+returns-then-c-eq82 c = reads _ c.if-c-eq82.true
+
+pub returns-then-c-eq77 : goal.returns-then-c-eq77
+returns-then-c-eq77 c = modifies _ c.if-c-eq77.true
+
+pub returns-else-c-eq77 : goal.returns-else-c-eq77
+returns-else-c-eq77 c = writes _ c.if-c-eq82.false c.if-c-eq77.false
