@@ -1,7 +1,7 @@
 #![tactic(auto)]
 // The bench: reads lines on standard input to its end, and writes one for each. Document 01, "The bench program".
 use chip::system::System;
-use libc::{STDIN_FILENO, STDOUT_FILENO};
+use std::io::{Read, Write};
 use text::Text;
 
 // Between two reads: the system, the line that has begun, and whether there is still a reader.
@@ -12,15 +12,15 @@ struct Bench {
     read: bool,
 }
 
-fn write(text: Text) -> bool {
+fn write<W: Write>(output: &mut W, text: Text) -> bool {
     let length = text.length;
     let bytes = text.bytes;
     let n = pieces::within(length, &bytes);
-    io::write_all(STDOUT_FILENO, &bytes[..n])
+    output.write_all(&bytes[..n]).is_ok()
 }
 
 // Each byte of a part of the input: a line is answered when its line feed has come.
-fn take(bench: Bench, part: &[u8]) -> Bench {
+fn take<W: Write>(output: &mut W, bench: Bench, part: &[u8]) -> Bench {
     let mut system = bench.system;
     let mut line = bench.line;
     for i in 0..part.len() {
@@ -29,7 +29,7 @@ fn take(bench: Bench, part: &[u8]) -> Bench {
             let text = turn.text;
             system = turn.system;
             line = Text::new();
-            if !write(text) {
+            if !write(output, text) {
                 return Bench {
                     system,
                     line,
@@ -49,8 +49,10 @@ fn take(bench: Bench, part: &[u8]) -> Bench {
 
 // A proved loop has to end, and nothing says that the input does. So it counts its turns down, from a number that no run
 // uses up.
-fn main() {
-    let mut buffer = io::buffer();
+fn main(rt: HostRuntime) {
+    let mut input = rt.stdin();
+    let mut output = rt.stdout();
+    let mut buffer = [0u8; 4096];
     let mut bench = Bench {
         system: System::nothing(),
         line: Text::new(),
@@ -58,17 +60,15 @@ fn main() {
     };
     let mut turns = u64::MAX;
     while turns > 0 && bench.read {
-        let got = libc::read(STDIN_FILENO, &mut buffer);
-        if got <= 0 {
-            break;
+        match input.read(&mut buffer) {
+            Ok(0) | Err(_) => break,
+            Ok(n) => bench = take(&mut output, bench, &buffer[..n]),
         }
-        let n = io::count(got, &buffer);
-        bench = take(bench, &buffer[..n]);
         turns -= 1;
     }
     // The last line feed may lack.
     if bench.read && !bench.line.is_empty() {
         let turn = lines::turn::answer(bench.line, bench.system);
-        write(turn.text);
+        write(&mut output, turn.text);
     }
 }
