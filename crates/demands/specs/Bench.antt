@@ -11,7 +11,7 @@ use Rattle.lines.specs.Turn.{lines, transcript}
 use Rattle.lines.specs.declared.line.Line.TheVariants.{Bad}
 use Rattle.lines.specs.declared.turn.Turn.{Turn}
 use Rattle.demands.specs.Promises.{Returned}
-use Rattle.chip.specs.contracts.system.System.nothing as SystemNothing
+use Rattle.chip.proofs.system.System.nothing as SystemNothing
 use Rattle.text.proofs.Text.new as TextNew
 use Rattle.text.proofs.Text.is_empty as TextIsEmpty
 use Rattle.text.proofs.Text.push as TextPush

@@ -65,9 +65,9 @@ use Rattle.registers.proofs.unit.Unit.segment as UnitSegment
 -- chip
 use Rattle.chip.proofs.answer.Answer.values as AnswerValues
 use Rattle.chip.proofs.answer.miscounted as answer_miscounted
-use Rattle.chip.specs.contracts.system.System.granted as SystemGranted
-use Rattle.chip.specs.contracts.system.System.perform as SystemPerform
-use Rattle.chip.specs.contracts.system.System.nothing as SystemNothing
+use Rattle.chip.proofs.system.System.granted as SystemGranted
+use Rattle.chip.proofs.system.System.perform as SystemPerform
+use Rattle.chip.proofs.system.System.nothing as SystemNothing
 use Rattle.chip.proofs.system.System.present as SystemPresent
 -- block
 use Rattle.block.proofs.read.read as block_read

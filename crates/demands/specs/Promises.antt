@@ -61,8 +61,7 @@ module _ {n : ℕ} where
   arguments κs places [] given = tt
   arguments κs places (lent j ok ∷ ps) given =
       (record { ref_ptr = (places j).0; ghost_name = (places j).1; now = given.0 }, arguments κs places ps given.1)
-  arguments κs places (shown j ok ∷ ps) given =
-      (record { ref_ptr = (places j).0; ghost_name = (places j).1; now = given.0 }, arguments κs places ps given.1)
+  arguments κs places (shown j ok ∷ ps) given = (record { ref_ptr = (places j).0; now = given.0 }, arguments κs places ps given.1)
   arguments κs places (number w ∷ ps) given = (given.0, arguments κs places ps given.1)
 
   abbrev pub lasts : (κs : Lfts n) (places : ℕ → (ℕ × ℕ) × ℕ) (ps : List (Parameter n)) (given : Given ps) → Left ps
