@@ -17,7 +17,6 @@ use Rattle.pieces.proofs.Bytes.{bytes_drop, bytes_take, word_fits}
 use Rattle.pieces.proofs.Stores.{at_listed}
 use Rattle.descriptors.specs.Descriptor.{zeros}
 use Rattle.registers.specs.Unit.{local, marked, accumulator_of, no_unit, ac}
-use Rattle.registers.specs.Shared.{entry}
 use Rattle.chip.specs.Reset.{blank, nothing}
 use Rattle.descriptors.proofs.Clean.{clean_twice}
 use Rattle.registers.proofs.Clean.{rdp_twice}

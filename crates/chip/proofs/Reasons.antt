@@ -36,7 +36,6 @@ use Rattle.chip.specs.declared.search.Near.TheVariants.{Nothing}
 use Rattle.chip.specs.declared.search.Search.{Search}
 use Rattle.chip.specs.declared.search.Search.TheVariants.{Match, NoMatch}
 use Rattle.chip.specs.declared.register.Register.{Register}
-use Rattle.chip.specs.declared.register.Register.TheVariants as registers
 use Rattle.chip.specs.declared.register.Operation.TheVariants as operation
 use Rattle.chip.specs.declared.answer.Outcome.{Outcome}
 use Rattle.chip.specs.declared.answer.Reading.{Reading}

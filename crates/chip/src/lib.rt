@@ -1,4 +1,5 @@
 #![tactic(auto)]
+
 pub mod access;
 pub mod acknowledge;
 pub mod answer;

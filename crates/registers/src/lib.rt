@@ -1,3 +1,4 @@
 #![tactic(auto)]
+
 pub mod shared;
 pub mod unit;

@@ -1,6 +1,4 @@
 -- `cleftromi_reset` meets its contract: the call by its name. Assumes nothing.
-use borrow.Author.Rules.{rules}
-use Rattle.masks.proofs.Free.{free}
 use Rattle.cleftromi.proofs.cleftromi_reset.Goals as goal
 
 pub returns : goal.returns

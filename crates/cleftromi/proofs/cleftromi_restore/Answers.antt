@@ -1,9 +1,7 @@
 -- `cleftromi_restore` meets its contract: the block's length, then what the image is read as. Assumes nothing.
-use borrow.Author.Rules.{rules}
 use borrow.Author.Tests.{eq-eqb, ne_eqb}
 use mathlib.Core.Path.{◌≡◌, refl, sym, ap, ◌∙◌}
 use mathlib.Core.Logic.{◌≢◌}
-use Rattle.masks.proofs.Free.{free}
 use Rattle.image.specs.Image.{refusal}
 use Rattle.image.specs.declared.read.Restored.{Restored}
 use Rattle.image.proofs.Restored.{restored_refusal, restored_system}

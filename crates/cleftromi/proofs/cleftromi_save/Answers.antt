@@ -1,8 +1,6 @@
 -- `cleftromi_save` meets its contract: the block's length, then what image checks and writes. Assumes nothing.
-use borrow.Author.Rules.{rules}
 use borrow.Author.Tests.{eq-eqb, ne_eqb}
 use mathlib.Core.Path.{refl, sym, ◌∙◌}
-use Rattle.masks.proofs.Free.{free}
 use Rattle.image.specs.Image.{saved}
 use Rattle.cleftromi.specs.Interface.{save_answer, save_after, save_image}
 use Rattle.cleftromi.proofs.cleftromi_save.Goals as goal

@@ -1,6 +1,4 @@
 -- `finish` meets its contract: the answer as a number, and the system written. Assumes nothing.
-use borrow.Author.Rules.{rules}
-use Rattle.masks.proofs.Free.{free}
 use Rattle.cleftromi.proofs.finish.Goals as goal
 
 pub returns : goal.returns

@@ -1,10 +1,8 @@
 -- `run` meets its contract: the tests in their order, then what the callees ensure. Assumes nothing.
-use borrow.Author.Rules.{rules}
 use borrow.Author.Tests.{eq-eqb, ne_eqb}
 use mathlib.Core.Path.{refl, sym, ◌∙◌}
 use Rattle.cleftromi.specs.Interface.{answer, after}
 use Rattle.cleftromi.proofs.Blocks.{long_answer, long_after}
-use Rattle.masks.proofs.Free.{free}
 use Rattle.cleftromi.proofs.run.Goals as goal
 
 pub returns-then-short : goal.returns-then-short

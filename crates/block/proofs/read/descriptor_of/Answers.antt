@@ -1,7 +1,5 @@
 -- `descriptor_of` meets its contract: each field from its bytes. Assumes nothing.
-use borrow.Author.Rules.{rules}
 use Rattle.block.specs.Layout.{descriptor_of}
-use Rattle.masks.proofs.Free.{free}
 use Rattle.block.proofs.read.descriptor_of.Goals as goal
 
 pub returns : goal.returns

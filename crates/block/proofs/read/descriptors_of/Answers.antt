@@ -1,13 +1,10 @@
 -- `descriptors_of` meets its contract: the descriptors below i are read. Assumes nothing.
 use native.Mathlib.Omega.{arith}
-use Prim.Native.Nat.{◌-◌}
 use mathlib.Core.Path.{◌∙◌}
-use lib.ListN.{drop, length-take, length-drop}
+use lib.ListN.{length-take, length-drop}
 use Rattle.descriptors.specs.Descriptor.{zeros}
-use Rattle.block.specs.Layout.{descriptor_place, descriptor_of}
 use Rattle.pieces.proofs.Parts.{rest}
-use Rattle.chip.proofs.Each.{Filling, begun, next, ended}
-use Rattle.masks.proofs.Free.{free}
+use Rattle.chip.proofs.Each.{begun, next, ended}
 use Rattle.block.proofs.read.descriptors_of.Goals as goal
 
 pub loop-i-preserved : goal.loop-i-preserved

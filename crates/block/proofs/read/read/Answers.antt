@@ -2,7 +2,6 @@
 use borrow.Author.Tests.{lt-ltb, le-ltb}
 use native.Mathlib.Omega.{arith}
 use Rattle.block.specs.Layout.{shared_of, system_of, read}
-use Rattle.masks.proofs.Free.{free}
 use Rattle.block.proofs.read.read.Goals as goal
 
 pub returns-then-b-lt-SIZE : goal.returns-then-b-lt-SIZE

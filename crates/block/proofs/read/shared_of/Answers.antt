@@ -1,10 +1,8 @@
 -- `shared_of` meets its contract: the entries below i are read. Assumes nothing.
-use borrow.Author.Rules.{rules}
 use native.Mathlib.Omega.{arith}
-use Prim.Native.Nat.{◌≤◌, ◌-◌}
 use mathlib.Core.Path.{◌≡◌, refl}
-use mathlib.Core.List.{◌++◌, append-nil}
-use lib.ListN.{take, drop, replicate, length-drop}
+use mathlib.Core.List.{append-nil}
+use lib.ListN.{length-drop}
 use lib.Seq.{get_or-drop}
 use Rattle.block.specs.Layout.{shared_of}
 use Rattle.pieces.proofs.Parts.{copied_more}

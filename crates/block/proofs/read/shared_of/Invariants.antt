@@ -1,13 +1,8 @@
 -- What the loop of `shared_of` keeps.
-use borrow.Author.Rules.{rules}
-use native.Mathlib.Omega.{arith}
 use Prim.Native.Nat.{◌≤◌, ◌-◌}
-use mathlib.Core.Path.{◌≡◌, refl}
-use mathlib.Core.List.{◌++◌, append-nil}
-use lib.ListN.{take, drop, replicate, length-drop}
-use lib.Seq.{get_or-drop}
-use Rattle.block.specs.Layout.{shared_of}
-use Rattle.pieces.proofs.Parts.{copied_more}
+use mathlib.Core.Path.{◌≡◌}
+use mathlib.Core.List.{◌++◌}
+use lib.ListN.{take, drop, replicate}
 use Rattle.block.proofs.read.shared_of.Given as goal
 
 abbrev pub invariant-loop-i : goal.invariant-loop-i

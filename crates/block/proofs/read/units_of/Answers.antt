@@ -1,13 +1,10 @@
 -- `units_of` meets its contract: the units below m are read. Assumes nothing.
 use native.Mathlib.Omega.{arith}
-use Prim.Native.Nat.{◌-◌}
 use mathlib.Core.Path.{◌∙◌}
-use lib.ListN.{drop, length-take, length-drop}
+use lib.ListN.{length-take, length-drop}
 use Rattle.registers.specs.Unit.{no_unit}
-use Rattle.block.specs.Layout.{unit_place, unit_of}
 use Rattle.pieces.proofs.Parts.{rest}
-use Rattle.chip.proofs.Each.{Filling, begun, next, ended}
-use Rattle.masks.proofs.Free.{free}
+use Rattle.chip.proofs.Each.{begun, next, ended}
 use Rattle.block.proofs.read.units_of.Goals as goal
 
 pub loop-m-preserved : goal.loop-m-preserved

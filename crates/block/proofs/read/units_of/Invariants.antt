@@ -1,13 +1,8 @@
 -- What the loop of `units_of` keeps.
-use native.Mathlib.Omega.{arith}
 use Prim.Native.Nat.{◌-◌}
-use mathlib.Core.Path.{◌∙◌}
-use lib.ListN.{drop, length-take, length-drop}
-use Rattle.registers.specs.Unit.{no_unit}
+use lib.ListN.{drop}
 use Rattle.block.specs.Layout.{unit_place, unit_of}
-use Rattle.pieces.proofs.Parts.{rest}
-use Rattle.chip.proofs.Each.{Filling, begun, next, ended}
-use Rattle.masks.proofs.Free.{free}
+use Rattle.chip.proofs.Each.{Filling}
 use Rattle.block.proofs.read.units_of.Given as goal
 
 abbrev pub invariant-loop-m : goal.invariant-loop-m

@@ -1,11 +1,9 @@
 -- `put_descriptors` meets its contract: a piece of 9 bytes in each turn. Assumes nothing.
 use native.Mathlib.Omega.{arith}
-use Prim.Native.Nat.{◌-◌}
 use mathlib.Core.Path.{refl}
-use lib.ListN.{get_or, length-take, length-drop}
-use Rattle.descriptors.specs.Descriptor.{zeros}
+use lib.ListN.{length-take, length-drop}
 use Rattle.block.specs.Layout.{descriptor_bytes}
-use Rattle.pieces.proofs.Parts.{Done, begun, next, ended}
+use Rattle.pieces.proofs.Parts.{begun, next, ended}
 use Rattle.block.proofs.write.put_descriptors.Goals as goal
 
 pub loop-i-preserved : goal.loop-i-preserved

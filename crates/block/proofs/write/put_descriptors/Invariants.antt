@@ -1,11 +1,9 @@
 -- What the loop of `put_descriptors` keeps.
-use native.Mathlib.Omega.{arith}
 use Prim.Native.Nat.{◌-◌}
-use mathlib.Core.Path.{refl}
-use lib.ListN.{get_or, length-take, length-drop}
+use lib.ListN.{get_or}
 use Rattle.descriptors.specs.Descriptor.{zeros}
 use Rattle.block.specs.Layout.{descriptor_bytes}
-use Rattle.pieces.proofs.Parts.{Done, begun, next, ended}
+use Rattle.pieces.proofs.Parts.{Done}
 use Rattle.block.proofs.write.put_descriptors.Given as goal
 
 abbrev pub invariant-loop-i : goal.invariant-loop-i

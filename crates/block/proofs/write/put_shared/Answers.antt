@@ -1,17 +1,15 @@
 -- `put_shared` meets its contract: sixteen bytes, then the table. Assumes nothing.
 use borrow.Author.Rules.{rules}
-use borrow.Rule.Slice.PartMut.{same_len_mid}
 use native.Mathlib.Omega.{arith}
-use Prim.Native.Nat.{ℕ, ◌-◌, ◌%◌}
+use Prim.Native.Nat.{ℕ, ◌%◌}
 use mathlib.Core.Path.{◌≡◌, refl, ◌∙◌}
 use mathlib.Core.List.{List, ◌∷◌, ◌++◌}
-use lib.ListN.{length, drop, set, replicate, length-set, length-take, length-drop}
+use lib.ListN.{length, drop, set, replicate}
 use Rattle.registers.specs.Shared.{gsr_byte}
 use Rattle.registers.specs.declared.shared.Shared.{Shared}
 use Rattle.block.specs.Layout.{shared_bytes}
 use Rattle.pieces.proofs.Bytes.{zeroed_front}
 use Rattle.pieces.proofs.Parts.{further_copy}
-use Rattle.masks.proofs.Free.{free}
 use Rattle.block.proofs.write.put_shared.Goals as goal
 
 -- what stands in the slice before the table is written

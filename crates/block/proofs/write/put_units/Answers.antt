@@ -1,11 +1,9 @@
 -- `put_units` meets its contract: a piece of 16 bytes in each turn. Assumes nothing.
 use native.Mathlib.Omega.{arith}
-use Prim.Native.Nat.{◌-◌}
 use mathlib.Core.Path.{refl}
-use lib.ListN.{get_or, length-take, length-drop}
-use Rattle.registers.specs.Unit.{no_unit}
+use lib.ListN.{length-take, length-drop}
 use Rattle.block.specs.Layout.{unit_bytes}
-use Rattle.pieces.proofs.Parts.{Done, begun, next, ended}
+use Rattle.pieces.proofs.Parts.{begun, next, ended}
 use Rattle.block.proofs.write.put_units.Goals as goal
 
 pub loop-m-preserved : goal.loop-m-preserved

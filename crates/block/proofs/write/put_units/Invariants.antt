@@ -1,11 +1,9 @@
 -- What the loop of `put_units` keeps.
-use native.Mathlib.Omega.{arith}
 use Prim.Native.Nat.{◌-◌}
-use mathlib.Core.Path.{refl}
-use lib.ListN.{get_or, length-take, length-drop}
+use lib.ListN.{get_or}
 use Rattle.registers.specs.Unit.{no_unit}
 use Rattle.block.specs.Layout.{unit_bytes}
-use Rattle.pieces.proofs.Parts.{Done, begun, next, ended}
+use Rattle.pieces.proofs.Parts.{Done}
 use Rattle.block.proofs.write.put_units.Given as goal
 
 abbrev pub invariant-loop-m : goal.invariant-loop-m

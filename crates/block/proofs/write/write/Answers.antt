@@ -1,5 +1,4 @@
 -- `write` meets its contract: one part after the other, from the front. Assumes nothing.
-use borrow.Author.Rules.{rules}
 use borrow.Author.Tests.{lt-ltb, le-ltb}
 use native.Mathlib.Omega.{arith}
 use mathlib.Core.List.{List, ◌++◌}
@@ -13,7 +12,6 @@ use Rattle.registers.specs.Unit.{no_unit}
 use Rattle.block.specs.Layout.{unit_bytes, descriptor_bytes, shared_bytes, form, written}
 use Rattle.pieces.specs.Pieces.{pieces}
 use Rattle.pieces.proofs.Parts.{Front, further, further_zeros, length_pieces}
-use Rattle.masks.proofs.Free.{free}
 use Rattle.block.proofs.write.write.Goals as goal
 
 pub returns-then-b-lt-SIZE : goal.returns-then-b-lt-SIZE

@@ -1,6 +1,4 @@
 -- `load::blame` meets its contract. Assumes nothing.
-use borrow.Author.Rules.{rules}
-use Rattle.masks.proofs.Free.{free}
 use Rattle.chip.proofs.load.blame.Goals as goal
 
 pub returns-in-At : goal.returns-in-At

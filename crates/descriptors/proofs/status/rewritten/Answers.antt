@@ -4,7 +4,6 @@ use mathlib.Core.Bool.{not}
 use borrow.Author.Tests.{eq-eqb, ne_eqb}
 use Rattle.masks.proofs.Bits.{bit_test}
 use Rattle.descriptors.specs.Status.{E, rewritten}
-use Rattle.masks.proofs.Free.{free}
 use Rattle.descriptors.proofs.status.rewritten.Goals as goal
 
 pub returns-then-old-eq0 : goal.returns-then-old-eq0

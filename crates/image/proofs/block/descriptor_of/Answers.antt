@@ -1,5 +1,4 @@
 -- `descriptor_of` meets its contract: each field from its bytes. Assumes nothing.
-use Rattle.std.proofs.Common.{rules}
 use Rattle.pieces.proofs.Parts.{rest}
 use Rattle.image.specs.Block.{descriptor_of}
 use Rattle.image.proofs.block.descriptor_of.Goals as goal

@@ -1,6 +1,5 @@
 -- `own` meets its contract: rule after rule. Assumes nothing.
-use Rattle.std.proofs.Common.{refl, arith, rules}
-use Rattle.masks.proofs.Free.{free}
+use Rattle.std.proofs.Common.{refl, arith}
 use Rattle.image.specs.Rules.{own}
 use Rattle.image.proofs.block.own.Goals as goal
 

@@ -1,7 +1,6 @@
 -- `reserved_zero` meets its contract: byte after byte. Assumes nothing.
-use Rattle.std.proofs.Common.{◌-◌, eqb, arith, eq-eqb, ne_eqb}
-use Rattle.masks.proofs.Every.{Tried, begun, next, failed, ended}
-use Rattle.image.specs.Block.{reserved}
+use Rattle.std.proofs.Common.{arith, eq-eqb, ne_eqb}
+use Rattle.masks.proofs.Every.{begun, next, failed, ended}
 use Rattle.image.proofs.block.reserved_zero.Goals as goal
 
 pub loop-i-init : goal.loop-i-init

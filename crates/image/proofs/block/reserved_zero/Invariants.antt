@@ -1,6 +1,6 @@
 -- What the loop of `reserved_zero` keeps.
-use Rattle.std.proofs.Common.{◌-◌, eqb, arith, eq-eqb, ne_eqb}
-use Rattle.masks.proofs.Every.{Tried, begun, next, failed, ended}
+use Rattle.std.proofs.Common.{◌-◌, eqb}
+use Rattle.masks.proofs.Every.{Tried}
 use Rattle.image.specs.Block.{reserved}
 use Rattle.image.proofs.block.reserved_zero.Given as goal
 

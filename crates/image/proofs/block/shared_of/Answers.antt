@@ -1,5 +1,5 @@
 -- `shared_of` meets its contract: each register from its bytes. Assumes nothing.
-use Rattle.std.proofs.Common.{arith, rules}
+use Rattle.std.proofs.Common.{arith}
 use Rattle.image.specs.Block.{shared_of}
 use Rattle.image.proofs.block.shared_of.Goals as goal
 

@@ -1,7 +1,6 @@
 -- `statuses_allowed` meets its contract: descriptor after descriptor. Assumes nothing.
-use Rattle.std.proofs.Common.{◌≡◌, ℕ, ◌-◌, List, sym, refl, ◌∙◌, arith, get_or-drop}
-use borrow.Author.Tests.{not-true, not-false}
-use Rattle.masks.proofs.Every.{Tried, begun, next, failed, ended}
+use Rattle.std.proofs.Common.{◌≡◌, ℕ, List, sym, refl, ◌∙◌, arith, get_or-drop}
+use Rattle.masks.proofs.Every.{begun, next, failed, ended}
 use Rattle.descriptors.specs.declared.descriptor.Descriptor.{Descriptor}
 use Rattle.image.specs.Block.{ssr, descriptor_of}
 use Rattle.image.specs.Rules.{allowed}

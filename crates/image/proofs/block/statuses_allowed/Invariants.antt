@@ -1,9 +1,7 @@
 -- What the loop of `statuses_allowed` keeps.
-use Rattle.std.proofs.Common.{◌≡◌, ℕ, ◌-◌, List, sym, refl, ◌∙◌, arith, get_or-drop}
-use borrow.Author.Tests.{not-true, not-false}
-use Rattle.masks.proofs.Every.{Tried, begun, next, failed, ended}
-use Rattle.descriptors.specs.declared.descriptor.Descriptor.{Descriptor}
-use Rattle.image.specs.Block.{ssr, descriptor_of}
+use Rattle.std.proofs.Common.{◌-◌}
+use Rattle.masks.proofs.Every.{Tried}
+use Rattle.image.specs.Block.{ssr}
 use Rattle.image.specs.Rules.{allowed}
 use Rattle.image.proofs.block.statuses_allowed.Given as goal
 

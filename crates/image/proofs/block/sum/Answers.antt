@@ -1,5 +1,5 @@
 -- `sum` meets its contract: word after word. Assumes nothing.
-use Rattle.std.proofs.Common.{◌≡◌, ◌-◌, ◌%◌, ◌^◌, ◌≤◌, refl, ◌∙◌, add-one, arith}
+use Rattle.std.proofs.Common.{◌≡◌, refl, ◌∙◌, add-one, arith}
 use Rattle.image.specs.Block.{words}
 use Rattle.image.proofs.block.sum.Goals as goal
 

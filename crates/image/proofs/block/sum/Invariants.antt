@@ -1,5 +1,5 @@
 -- What the loop of `sum` keeps.
-use Rattle.std.proofs.Common.{◌≡◌, ◌-◌, ◌%◌, ◌^◌, ◌≤◌, refl, ◌∙◌, add-one, arith}
+use Rattle.std.proofs.Common.{◌≡◌, ◌-◌, ◌%◌, ◌^◌, ◌≤◌}
 use Rattle.image.specs.Block.{words}
 use Rattle.image.proofs.block.sum.Given as goal
 

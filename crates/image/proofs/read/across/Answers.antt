@@ -1,7 +1,5 @@
 -- `across` meets its contract: by its `&&`. Assumes nothing.
-use Rattle.std.proofs.Common.{rules}
 use Rattle.masks.proofs.Flags.{and_taken, and_left}
-use Rattle.masks.proofs.Free.{free}
 use Rattle.image.proofs.read.across.Goals as goal
 
 pub returns-then-same_shared : goal.returns-then-same_shared

@@ -1,6 +1,5 @@
 -- `block_refusal` meets its contract: the check first. Assumes nothing.
-use Rattle.std.proofs.Common.{◌≡◌, ℕ, ◌%◌, ◌^◌, List, Bool, true, false, cond, not, ◌&&◌, sym, refl, ◌∙◌, arith, eq-eqb, ne_eqb}
-use borrow.Author.Tests.{not-true, not-false}
+use Rattle.std.proofs.Common.{◌≡◌, ℕ, ◌%◌, ◌^◌, List, Bool, cond, not, ◌&&◌, sym, refl, ◌∙◌, arith, eq-eqb, ne_eqb}
 use Rattle.chip.specs.Answer.{first_of}
 use Rattle.image.specs.Block.{words}
 use Rattle.image.specs.Rules.{own, counted}

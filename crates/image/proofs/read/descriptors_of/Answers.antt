@@ -1,11 +1,8 @@
 -- `descriptors_of` meets its contract: the descriptors below i are read. Assumes nothing.
-use Rattle.std.proofs.Common.{◌-◌, ◌*◌, ◌/◌, ◌%◌, ◌∙◌, arith, length-drop, length-take}
-use Rattle.masks.proofs.Free.{free}
+use Rattle.std.proofs.Common.{◌∙◌, arith, length-drop, length-take}
 use Rattle.pieces.proofs.Parts.{rest}
 use Rattle.descriptors.specs.Descriptor.{zeros}
-use Rattle.chip.proofs.Each.{Filling, begun, next, ended}
-use Rattle.image.specs.Block.{descriptor_of}
-use Rattle.image.specs.Image.{from_block}
+use Rattle.chip.proofs.Each.{begun, next, ended}
 use Rattle.image.proofs.read.descriptors_of.Goals as goal
 
 pub loop-i-preserved : goal.loop-i-preserved

@@ -1,5 +1,5 @@
 -- `examined` meets its contract: block after block, the first bad one decides. Assumes nothing.
-use Rattle.std.proofs.Common.{◌≡◌, ℕ, ◌-◌, ◌*◌, ◌≤◌, List, length, take, sym, refl, ◌∙◌, arith, length-drop, length-take}
+use Rattle.std.proofs.Common.{◌≡◌, ℕ, ◌-◌, ◌*◌, List, length, take, sym, refl, ◌∙◌, arith, length-drop, length-take}
 use Rattle.pieces.specs.Pieces.{pieces}
 use Rattle.pieces.proofs.Parts.{rest}
 use Rattle.chip.specs.Answer.{first_of}

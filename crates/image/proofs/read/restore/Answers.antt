@@ -1,6 +1,5 @@
 -- `restore` meets its contract: the length, then block after block, then the rules across them. Assumes nothing.
 use Rattle.std.proofs.Common.{◌≡◌, true, false, ◌≢◌, length, sym, refl, ◌∙◌, ne_eqb}
-use Rattle.masks.proofs.Free.{free}
 use Rattle.pieces.specs.Pieces.{pieces}
 use Rattle.chip.specs.Answer.{first_of}
 use Rattle.image.specs.Image.{blocks, across, misfit, refusals_at, restored}

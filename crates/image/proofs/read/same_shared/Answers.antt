@@ -1,10 +1,7 @@
 -- `same_shared` meets its contract: block after block. Assumes nothing.
-use Rattle.std.proofs.Common.{◌-◌, sym, refl, ◌∙◌, arith, length-drop, length-take}
-use borrow.Author.Tests.{not-true, not-false}
+use Rattle.std.proofs.Common.{sym, refl, ◌∙◌, arith, length-drop, length-take}
 use Rattle.pieces.proofs.Parts.{rest}
-use Rattle.masks.proofs.Every.{Tried, begun, next, failed, ended}
-use Rattle.image.specs.Rules.{same_shared}
-use Rattle.image.specs.Image.{from_block}
+use Rattle.masks.proofs.Every.{begun, next, failed, ended}
 use Rattle.image.proofs.read.same_shared.Goals as goal
 
 pub loop-m-init : goal.loop-m-init

@@ -1,8 +1,6 @@
 -- What the loop of `same_shared` keeps.
-use Rattle.std.proofs.Common.{◌-◌, sym, refl, ◌∙◌, arith, length-drop, length-take}
-use borrow.Author.Tests.{not-true, not-false}
-use Rattle.pieces.proofs.Parts.{rest}
-use Rattle.masks.proofs.Every.{Tried, begun, next, failed, ended}
+use Rattle.std.proofs.Common.{◌-◌}
+use Rattle.masks.proofs.Every.{Tried}
 use Rattle.image.specs.Rules.{same_shared}
 use Rattle.image.specs.Image.{from_block}
 use Rattle.image.proofs.read.same_shared.Given as goal

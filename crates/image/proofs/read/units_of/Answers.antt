@@ -1,11 +1,8 @@
 -- `units_of` meets its contract: the units below m are read. Assumes nothing.
-use Rattle.std.proofs.Common.{◌-◌, ◌∙◌, arith, length-drop, length-take}
-use Rattle.masks.proofs.Free.{free}
+use Rattle.std.proofs.Common.{◌∙◌, arith, length-drop, length-take}
 use Rattle.pieces.proofs.Parts.{rest}
 use Rattle.registers.specs.Unit.{no_unit}
-use Rattle.chip.proofs.Each.{Filling, begun, next, ended}
-use Rattle.image.specs.Block.{unit_of}
-use Rattle.image.specs.Image.{from_block}
+use Rattle.chip.proofs.Each.{begun, next, ended}
 use Rattle.image.proofs.read.units_of.Goals as goal
 
 pub loop-m-preserved : goal.loop-m-preserved

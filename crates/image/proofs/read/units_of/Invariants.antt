@@ -1,9 +1,6 @@
 -- What the loop of `units_of` keeps.
-use Rattle.std.proofs.Common.{◌-◌, ◌∙◌, arith, length-drop, length-take}
-use Rattle.masks.proofs.Free.{free}
-use Rattle.pieces.proofs.Parts.{rest}
-use Rattle.registers.specs.Unit.{no_unit}
-use Rattle.chip.proofs.Each.{Filling, begun, next, ended}
+use Rattle.std.proofs.Common.{◌-◌}
+use Rattle.chip.proofs.Each.{Filling}
 use Rattle.image.specs.Block.{unit_of}
 use Rattle.image.specs.Image.{from_block}
 use Rattle.image.proofs.read.units_of.Given as goal

@@ -1,10 +1,7 @@
 -- `agreed` meets its contract: unit after unit. Assumes nothing.
-use Rattle.std.proofs.Common.{◌-◌, ◌≤◌, get_or, sym, ◌∙◌, arith}
-use borrow.Author.Tests.{not-true, not-false}
-use Rattle.masks.specs.Fields.{every}
-use Rattle.registers.specs.Unit.{no_unit}
-use Rattle.masks.proofs.Every.{Tried, begun, next, failed, ended}
-use Rattle.image.specs.Rules.{same_marked, agreed}
+use Rattle.std.proofs.Common.{sym, ◌∙◌, arith}
+use Rattle.masks.proofs.Every.{begun, next, failed, ended}
+use Rattle.image.specs.Rules.{agreed}
 use Rattle.image.proofs.rules.agreed.Goals as goal
 
 pub loop-m-init : goal.loop-m-init

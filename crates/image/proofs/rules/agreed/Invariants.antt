@@ -1,10 +1,9 @@
 -- What the loop of `agreed` keeps.
-use Rattle.std.proofs.Common.{◌-◌, ◌≤◌, get_or, sym, ◌∙◌, arith}
-use borrow.Author.Tests.{not-true, not-false}
+use Rattle.std.proofs.Common.{◌≤◌, get_or}
 use Rattle.masks.specs.Fields.{every}
 use Rattle.registers.specs.Unit.{no_unit}
-use Rattle.masks.proofs.Every.{Tried, begun, next, failed, ended}
-use Rattle.image.specs.Rules.{same_marked, agreed}
+use Rattle.masks.proofs.Every.{Tried}
+use Rattle.image.specs.Rules.{same_marked}
 use Rattle.image.proofs.rules.agreed.Given as goal
 
 abbrev pub invariant-loop-m : goal.invariant-loop-m

@@ -1,9 +1,6 @@
 -- `agreed_below` meets its contract: unit after unit. Assumes nothing.
-use Rattle.std.proofs.Common.{◌-◌, get_or, sym, ◌∙◌, arith}
-use borrow.Author.Tests.{not-true, not-false}
-use Rattle.registers.specs.Unit.{no_unit}
-use Rattle.masks.proofs.Every.{Tried, begun, next, failed, ended}
-use Rattle.image.specs.Rules.{same_marked}
+use Rattle.std.proofs.Common.{sym, ◌∙◌, arith}
+use Rattle.masks.proofs.Every.{begun, next, failed, ended}
 use Rattle.image.proofs.rules.agreed_below.Goals as goal
 
 pub loop-k-init : goal.loop-k-init

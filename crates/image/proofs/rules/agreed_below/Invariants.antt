@@ -1,8 +1,7 @@
 -- What the loop of `agreed_below` keeps.
-use Rattle.std.proofs.Common.{◌-◌, get_or, sym, ◌∙◌, arith}
-use borrow.Author.Tests.{not-true, not-false}
+use Rattle.std.proofs.Common.{◌-◌, get_or}
 use Rattle.registers.specs.Unit.{no_unit}
-use Rattle.masks.proofs.Every.{Tried, begun, next, failed, ended}
+use Rattle.masks.proofs.Every.{Tried}
 use Rattle.image.specs.Rules.{same_marked}
 use Rattle.image.proofs.rules.agreed_below.Given as goal
 

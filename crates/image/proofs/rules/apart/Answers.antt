@@ -1,9 +1,6 @@
 -- `apart` meets its contract: place after place. Assumes nothing.
-use Rattle.std.proofs.Common.{◌-◌, ◌≤◌, not, ◌&&◌, get_or, sym, ◌∙◌, arith}
-use borrow.Author.Tests.{not-true, not-false}
-use Rattle.masks.specs.Fields.{every}
-use Rattle.descriptors.specs.Descriptor.{zeros, enabled, collides}
-use Rattle.masks.proofs.Every.{Tried, begun, next, failed, ended}
+use Rattle.std.proofs.Common.{sym, ◌∙◌, arith}
+use Rattle.masks.proofs.Every.{begun, next, failed, ended}
 use Rattle.image.specs.Rules.{apart}
 use Rattle.image.proofs.rules.apart.Goals as goal
 

@@ -1,10 +1,8 @@
 -- What the loop of `apart` keeps.
-use Rattle.std.proofs.Common.{◌-◌, ◌≤◌, not, ◌&&◌, get_or, sym, ◌∙◌, arith}
-use borrow.Author.Tests.{not-true, not-false}
+use Rattle.std.proofs.Common.{◌≤◌, not, ◌&&◌, get_or}
 use Rattle.masks.specs.Fields.{every}
 use Rattle.descriptors.specs.Descriptor.{zeros, enabled, collides}
-use Rattle.masks.proofs.Every.{Tried, begun, next, failed, ended}
-use Rattle.image.specs.Rules.{apart}
+use Rattle.masks.proofs.Every.{Tried}
 use Rattle.image.proofs.rules.apart.Given as goal
 
 abbrev pub invariant-loop-i : goal.invariant-loop-i

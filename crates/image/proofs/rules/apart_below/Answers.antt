@@ -1,9 +1,7 @@
 -- `apart_below` meets its contract: place after place, where the descriptor is enabled. Assumes nothing.
-use Rattle.std.proofs.Common.{◌-◌, not, ◌&&◌, get_or, sym, refl, ◌∙◌, arith}
-use borrow.Author.Tests.{not-true, not-false}
+use Rattle.std.proofs.Common.{sym, refl, ◌∙◌, arith}
 use Rattle.masks.proofs.Bits.{every_at}
-use Rattle.descriptors.specs.Descriptor.{zeros, enabled, collides}
-use Rattle.masks.proofs.Every.{Tried, begun, next, failed, ended}
+use Rattle.masks.proofs.Every.{begun, next, failed, ended}
 use Rattle.image.proofs.rules.apart_below.Goals as goal
 
 pub returns-then-not-enabled : goal.returns-then-not-enabled

@@ -1,9 +1,7 @@
 -- What the loop of `apart_below` keeps.
-use Rattle.std.proofs.Common.{◌-◌, not, ◌&&◌, get_or, sym, refl, ◌∙◌, arith}
-use borrow.Author.Tests.{not-true, not-false}
-use Rattle.masks.proofs.Bits.{every_at}
+use Rattle.std.proofs.Common.{◌-◌, not, ◌&&◌, get_or}
 use Rattle.descriptors.specs.Descriptor.{zeros, enabled, collides}
-use Rattle.masks.proofs.Every.{Tried, begun, next, failed, ended}
+use Rattle.masks.proofs.Every.{Tried}
 use Rattle.image.proofs.rules.apart_below.Given as goal
 
 abbrev pub invariant-loop-k : goal.invariant-loop-k

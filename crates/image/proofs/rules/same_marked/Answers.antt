@@ -1,8 +1,7 @@
 -- `same_marked` meets its contract: byte after byte. Assumes nothing.
-use Rattle.std.proofs.Common.{◌≡◌, ◌-◌, Bool, true, false, not, ◌&&◌, ◌||◌, eqb, get_or, refl, ap, ◌∙◌, arith}
+use Rattle.std.proofs.Common.{not, get_or, ap, ◌∙◌, arith}
 use Rattle.registers.specs.Unit.{local}
-use Rattle.registers.specs.declared.unit.Byte.{Byte}
-use Rattle.masks.proofs.Every.{Tried, begun, next, failed, ended}
+use Rattle.masks.proofs.Every.{begun, next, failed, ended}
 use Rattle.image.specs.Rules.{same_marked}
 use Rattle.image.proofs.Marks.{rule_test}
 use Rattle.image.proofs.rules.same_marked.Goals as goal

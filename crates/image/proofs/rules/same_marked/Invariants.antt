@@ -1,8 +1,7 @@
 -- What the loop of `same_marked` keeps.
-use Rattle.std.proofs.Common.{◌≡◌, ◌-◌, Bool, true, false, not, ◌&&◌, ◌||◌, eqb, get_or, refl, ap, ◌∙◌, arith}
+use Rattle.std.proofs.Common.{◌-◌, get_or}
 use Rattle.registers.specs.Unit.{local}
-use Rattle.registers.specs.declared.unit.Byte.{Byte}
-use Rattle.masks.proofs.Every.{Tried, begun, next, failed, ended}
+use Rattle.masks.proofs.Every.{Tried}
 use Rattle.image.proofs.Marks.{rule}
 use Rattle.image.proofs.rules.same_marked.Given as goal
 

@@ -1,6 +1,6 @@
 -- `same_table` meets its contract: entry after entry. Assumes nothing.
-use Rattle.std.proofs.Common.{◌+◌, ◌-◌, eqb, get_or, arith, eq-eqb, ne_eqb}
-use Rattle.masks.proofs.Every.{Tried, begun, next, failed, ended}
+use Rattle.std.proofs.Common.{arith, eq-eqb, ne_eqb}
+use Rattle.masks.proofs.Every.{begun, next, failed, ended}
 use Rattle.image.proofs.rules.same_table.Goals as goal
 
 pub loop-i-init : goal.loop-i-init

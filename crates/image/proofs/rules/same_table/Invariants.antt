@@ -1,6 +1,6 @@
 -- What the loop of `same_table` keeps.
-use Rattle.std.proofs.Common.{◌+◌, ◌-◌, eqb, get_or, arith, eq-eqb, ne_eqb}
-use Rattle.masks.proofs.Every.{Tried, begun, next, failed, ended}
+use Rattle.std.proofs.Common.{◌+◌, ◌-◌, eqb, get_or}
+use Rattle.masks.proofs.Every.{Tried}
 use Rattle.image.proofs.rules.same_table.Given as goal
 
 abbrev pub invariant-loop-i : goal.invariant-loop-i

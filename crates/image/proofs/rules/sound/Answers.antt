@@ -1,6 +1,5 @@
 -- `sound` meets its contract: by its `&&`. Assumes nothing.
 use Rattle.masks.proofs.Flags.{and_taken, and_left}
-use Rattle.masks.proofs.Free.{free}
 use Rattle.image.proofs.rules.sound.Goals as goal
 
 pub returns-then-agreed : goal.returns-then-agreed

@@ -1,10 +1,9 @@
 -- `put_block` meets its contract: two stores behind the fields, whose words the check is made of. Assumes nothing.
-use Rattle.std.proofs.Common.{◌≡◌, ℕ, ◌%◌, ◌^◌, List, length, take, drop, ap, ◌∙◌, arith, length-append, length-drop, drop-drop, take_at, drop_at, rules}
+use Rattle.std.proofs.Common.{◌≡◌, ℕ, ◌%◌, ◌^◌, List, length, take, drop, ap, ◌∙◌, arith, length-append, length-drop, drop-drop, take_at, drop_at}
 use lib.Seq.{sets-eq}
 use Rattle.pieces.specs.Pieces.{high_first}
 use Rattle.image.specs.Block.{words, fields, check, block}
 use Rattle.image.proofs.Words.{words_front}
-use Rattle.masks.proofs.Free.{free}
 use Rattle.image.proofs.write.put_block.Goals as goal
 
 pub returns : goal.returns

@@ -1,7 +1,7 @@
 -- `put_blocks` meets its contract: a piece of 512 bytes in each turn. Assumes nothing.
-use Rattle.std.proofs.Common.{◌≡◌, ◌-◌, ◌*◌, length, ◌∙◌, append-nil, arith, length-drop, drop_of_length-le, length-take, rules}
+use Rattle.std.proofs.Common.{◌≡◌, ◌*◌, length, ◌∙◌, append-nil, arith, length-drop, drop_of_length-le, length-take, rules}
 use Rattle.image.specs.Block.{block}
-use Rattle.pieces.proofs.Parts.{Done, begun, next, ended}
+use Rattle.pieces.proofs.Parts.{begun, next, ended}
 use Rattle.image.proofs.Words.{length_block}
 use Rattle.image.proofs.write.put_blocks.Goals as goal
 

@@ -1,8 +1,7 @@
 -- What the loop of `put_blocks` keeps.
-use Rattle.std.proofs.Common.{◌≡◌, ◌-◌, ◌*◌, length, ◌∙◌, append-nil, arith, length-drop, drop_of_length-le, length-take, rules}
+use Rattle.std.proofs.Common.{◌-◌}
 use Rattle.image.specs.Block.{block}
-use Rattle.pieces.proofs.Parts.{Done, begun, next, ended}
-use Rattle.image.proofs.Words.{length_block}
+use Rattle.pieces.proofs.Parts.{Done}
 use Rattle.image.proofs.write.put_blocks.Given as goal
 
 abbrev pub invariant-loop-m : goal.invariant-loop-m

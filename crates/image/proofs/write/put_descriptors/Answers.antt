@@ -1,8 +1,6 @@
 -- `put_descriptors` meets its contract: a piece of 9 bytes in each turn. Assumes nothing.
-use Rattle.std.proofs.Common.{◌+◌, ◌-◌, ◌*◌, get_or, refl, ◌∙◌, arith, length-drop, length-take, rules}
-use Rattle.descriptors.specs.Descriptor.{zeros, bytes}
-use Rattle.masks.proofs.Free.{free}
-use Rattle.pieces.proofs.Parts.{Done, begun, placed, ended}
+use Rattle.std.proofs.Common.{refl, ◌∙◌, arith}
+use Rattle.pieces.proofs.Parts.{begun, placed, ended}
 use Rattle.image.proofs.write.put_descriptors.Goals as goal
 
 pub loop-n-preserved : goal.loop-n-preserved

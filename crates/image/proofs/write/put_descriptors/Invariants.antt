@@ -1,8 +1,7 @@
 -- What the loop of `put_descriptors` keeps.
-use Rattle.std.proofs.Common.{◌+◌, ◌-◌, ◌*◌, get_or, refl, ◌∙◌, arith, length-drop, length-take, rules}
+use Rattle.std.proofs.Common.{◌+◌, ◌-◌, ◌*◌, get_or}
 use Rattle.descriptors.specs.Descriptor.{zeros, bytes}
-use Rattle.masks.proofs.Free.{free}
-use Rattle.pieces.proofs.Parts.{Done, begun, next, ended}
+use Rattle.pieces.proofs.Parts.{Done}
 use Rattle.image.proofs.write.put_descriptors.Given as goal
 
 abbrev pub invariant-loop-n : goal.invariant-loop-n

@@ -1,5 +1,5 @@
 -- `put_fields` meets its contract: one part after the other, from the front. Assumes nothing.
-use Rattle.std.proofs.Common.{◌≡◌, ℕ, ◌+◌, ◌*◌, ◌%◌, List, [], ◌∷◌, ◌++◌, length, drop, replicate, refl, ap, ◌∙◌, append_assoc, arith, length-append, length-drop, rules}
+use Rattle.std.proofs.Common.{◌≡◌, ℕ, ◌+◌, ◌*◌, ◌%◌, List, [], ◌∷◌, ◌++◌, length, drop, replicate, refl, ap, ◌∙◌, append_assoc, arith, length-append, length-drop}
 use Rattle.pieces.specs.Pieces.{list_of, pieces, high_first}
 use Rattle.descriptors.specs.Descriptor.{bytes}
 use Rattle.registers.specs.Unit.{ac, marks, held_lsr}
@@ -7,7 +7,6 @@ use Rattle.registers.specs.Shared.{gsr_byte}
 use Rattle.chip.specs.System.{unit, descriptor}
 use Rattle.image.specs.Block.{fields}
 use Rattle.pieces.proofs.Parts.{Front, further, further_zeros, length_pieces}
-use Rattle.masks.proofs.Free.{free}
 use Rattle.image.proofs.write.put_fields.Goals as goal
 
 pub returns : goal.returns

@@ -1,6 +1,5 @@
 -- `put_head` meets its contract: two stores, then the table. Assumes nothing.
-use Rattle.std.proofs.Common.{◌≡◌, ℕ, ◌-◌, ◌%◌, List, [], ◌∷◌, length, set, refl, ◌∙◌, arith, length-drop, length-set, length-take, rules}
-use borrow.Rule.Slice.PartMut.{same_len_mid}
+use Rattle.std.proofs.Common.{◌≡◌, ℕ, ◌%◌, List, [], ◌∷◌, length, refl, arith, rules}
 use Rattle.pieces.proofs.Parts.{further_stores, further_copy}
 use Rattle.image.proofs.write.put_head.Goals as goal
 

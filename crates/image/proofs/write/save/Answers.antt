@@ -1,10 +1,8 @@
 -- `save` meets its contract: each test is a row of the table of refusals, and past them all the blocks are written. Assumes nothing.
-use Rattle.std.proofs.Common.{◌≤◌, sym, ◌∙◌, arith, rules, eq-eqb, ne_eqb}
-use borrow.Author.Tests.{not-true, not-false}
+use Rattle.std.proofs.Common.{sym, ◌∙◌, arith, eq-eqb, ne_eqb}
 use native.Mathlib.Nat.{min-eq_left}
 use Rattle.image.specs.Image.{form, saved}
 use Rattle.chip.proofs.Counts.{well_counted}
-use Rattle.masks.proofs.Free.{free}
 use Rattle.image.proofs.write.save.Goals as goal
 
 pub returns-then-miscounted : goal.returns-then-miscounted

@@ -1,5 +1,4 @@
 -- `accumulator_of` meets its contract. Assumes nothing.
-use borrow.Author.Rules.{rules}
 use Rattle.registers.specs.Unit.{accumulator_of}
 use Rattle.registers.proofs.unit.accumulator_of.Goals as goal
 

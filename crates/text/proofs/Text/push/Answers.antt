@@ -1,5 +1,4 @@
 -- `push` meets its contract: by the one test. Assumes nothing.
-use borrow.Author.Rules.{rules}
 use borrow.Author.Tests.{lt-ltb, le-ltb}
 use Rattle.text.specs.Text.{pushed}
 use Rattle.text.proofs.Text.push.Goals as goal

@@ -1,12 +1,9 @@
 -- `with_bytes` meets its contract: what is left is still to be pushed. Assumes nothing.
-use Prim.Native.Nat.{◌≤◌, ◌-◌}
 use mathlib.Core.Path.{◌≡◌, refl, sym, ◌∙◌}
 use native.Mathlib.Omega.{arith}
 use native.Mathlib.Numerals.{add-one}
-use lib.ListN.{length, drop}
+use lib.ListN.{length}
 use lib.Seq.{drop-cons, drop-length}
-use Rattle.masks.proofs.Free.{free}
-use Rattle.text.specs.Text.{with_bytes}
 use Rattle.text.proofs.Text.with_bytes.Goals as goal
 
 pub loop-i-init : goal.loop-i-init

@@ -1,11 +1,7 @@
 -- What the loop of `with_bytes` keeps.
-use Prim.Native.Nat.{◌≤◌, ◌-◌}
-use mathlib.Core.Path.{◌≡◌, refl, sym, ◌∙◌}
-use native.Mathlib.Omega.{arith}
-use native.Mathlib.Numerals.{add-one}
+use Prim.Native.Nat.{◌≤◌}
+use mathlib.Core.Path.{◌≡◌}
 use lib.ListN.{length, drop}
-use lib.Seq.{drop-cons, drop-length}
-use Rattle.masks.proofs.Free.{free}
 use Rattle.text.specs.Text.{with_bytes}
 use Rattle.text.proofs.Text.with_bytes.Given as goal
 

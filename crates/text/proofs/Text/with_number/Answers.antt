@@ -1,7 +1,5 @@
 -- `with_number` meets its contract: by the one test. Assumes nothing.
-use borrow.Author.Rules.{rules}
 use borrow.Author.Tests.{lt-ltb, le-ltb}
-use Rattle.masks.proofs.Free.{free}
 use Rattle.text.proofs.Text.with_number.Goals as goal
 
 pub returns-then-n-lt10 : goal.returns-then-n-lt10

@@ -1,6 +1,5 @@
 -- `hex` meets its contract: by the tests. Assumes nothing.
 use borrow.Author.Tests.{le-leb, lt-leb}
-use Rattle.masks.proofs.Free.{free}
 use Rattle.text.proofs.digits.hex.Goals as goal
 
 pub returns-then-decimal : goal.returns-then-decimal

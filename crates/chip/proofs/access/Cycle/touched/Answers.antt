@@ -1,5 +1,4 @@
 -- `Cycle::touched` meets its contract. Assumes nothing.
-use Rattle.masks.proofs.Free.{free}
 use Rattle.chip.proofs.access.Cycle.touched.Goals as goal
 
 pub returns-then-writes : goal.returns-then-writes

@@ -1,6 +1,4 @@
 -- `Answer::values` meets its contract: what a kind of answer does not have is zero. Assumes nothing.
-use borrow.Author.Rules.{rules}
-use Rattle.masks.proofs.Free.{free}
 use Rattle.chip.proofs.answer.Answer.values.Goals as goal
 
 pub returns-in-Refused : goal.returns-in-Refused

@@ -1,6 +1,4 @@
 -- `Values::carrying` meets its contract. Assumes nothing.
-use borrow.Author.Rules.{rules}
-use Rattle.masks.proofs.Free.{free}
 use Rattle.chip.proofs.answer.Values.carrying.Goals as goal
 
 pub returns-in-Place : goal.returns-in-Place

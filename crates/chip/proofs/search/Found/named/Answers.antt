@@ -1,5 +1,4 @@
 -- `Found::named` meets its contract: a place has one of six units. Assumes nothing.
-use borrow.Author.Rules.{rules}
 use native.Mathlib.Omega.{arith}
 use Rattle.chip.proofs.search.Found.named.Goals as goal
 

@@ -1,5 +1,4 @@
 -- `Found::number` meets its contract. Assumes nothing.
-use borrow.Author.Rules.{rules}
 use Rattle.chip.proofs.search.Found.number.Goals as goal
 
 pub returns-in-At : goal.returns-in-At

@@ -1,5 +1,4 @@
 -- `Found::or_at` meets its contract. Assumes nothing.
-use borrow.Author.Rules.{rules}
 use Rattle.chip.proofs.search.Found.or_at.Goals as goal
 
 pub returns-in-At : goal.returns-in-At

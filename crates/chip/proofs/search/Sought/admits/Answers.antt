@@ -1,5 +1,4 @@
 -- `Sought::admits` meets its contract: the test by and tells the bit. Assumes nothing.
-use borrow.Author.Rules.{rules}
 use Rattle.masks.proofs.Bits.{bit_test}
 use Rattle.descriptors.specs.Status.{E, IP}
 use Rattle.chip.proofs.search.Sought.admits.Goals as goal

@@ -1,6 +1,4 @@
 -- `Sought::answers` meets its contract: by what is sought. Assumes nothing.
-use borrow.Author.Rules.{rules}
-use Rattle.masks.proofs.Free.{free}
 use Rattle.chip.proofs.search.Sought.answers.Goals as goal
 
 pub returns-in-Clash : goal.returns-in-Clash

@@ -1,10 +1,8 @@
 -- `System::access` meets its contract: the checks in their order, then the translation. Assumes nothing.
-use borrow.Author.Rules.{rules}
 use mathlib.Core.Path.{sym, ◌∙◌}
 use borrow.Author.Tests.{lt-ltb, le-ltb}
 use Rattle.chip.specs.Access.{translate}
 use Rattle.chip.proofs.Near.{searched_located}
-use Rattle.masks.proofs.Free.{free}
 use Rattle.chip.proofs.system.System.access.Goals as goal
 
 pub returns-then-miscounted : goal.returns-then-miscounted

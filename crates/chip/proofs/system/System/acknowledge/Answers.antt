@@ -2,7 +2,6 @@
 use mathlib.Core.Path.{sym, ap, ◌∙◌}
 use mathlib.Core.Bool.{not}
 use borrow.Author.Tests.{lt-ltb, le-ltb}
-use Rattle.masks.proofs.Free.{free}
 use Rattle.chip.proofs.system.System.acknowledge.Goals as goal
 
 pub returns-then-miscounted : goal.returns-then-miscounted

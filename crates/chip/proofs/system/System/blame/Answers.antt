@@ -1,15 +1,12 @@
 -- `System::blame` meets its contract: the units below k have their part, the others are as they were. Assumes nothing.
 use mathlib.Core.Path.{ap, ◌∙◌}
-use native.Mathlib.Omega.{arith}
-use Prim.Native.Nat.{◌-◌}
 use Rattle.descriptors.specs.Descriptor.{collides}
 use Rattle.chip.specs.System.{unit, with_units}
 use Rattle.chip.specs.Search.{in_unit}
 use Rattle.chip.specs.Load.{blame}
 use Rattle.chip.specs.declared.search.Found.{Found}
 use Rattle.chip.specs.declared.system.System.{System}
-use Rattle.chip.proofs.Units.{Done, begun, next, ended}
-use Rattle.masks.proofs.Free.{free}
+use Rattle.chip.proofs.Units.{begun, next, ended}
 use Rattle.chip.proofs.system.System.blame.Goals as goal
 
 pub loop-k-preserved : goal.loop-k-preserved

@@ -1,15 +1,9 @@
 -- What the loop of `blame` keeps.
-use mathlib.Core.Path.{ap, ◌∙◌}
-use native.Mathlib.Omega.{arith}
 use Prim.Native.Nat.{◌-◌}
 use Rattle.descriptors.specs.Descriptor.{collides}
-use Rattle.chip.specs.System.{unit, with_units}
 use Rattle.chip.specs.Search.{in_unit}
 use Rattle.chip.specs.Load.{blame}
-use Rattle.chip.specs.declared.search.Found.{Found}
-use Rattle.chip.specs.declared.system.System.{System}
-use Rattle.chip.proofs.Units.{Done, begun, next, ended}
-use Rattle.masks.proofs.Free.{free}
+use Rattle.chip.proofs.Units.{Done}
 use Rattle.chip.proofs.system.System.blame.Given as goal
 
 abbrev pub invariant-loop-k : goal.invariant-loop-k

@@ -2,7 +2,6 @@
 use mathlib.Core.Path.{ap, ◌∙◌}
 use Rattle.masks.proofs.Flags.{and_taken, and_left}
 use Rattle.chip.specs.Search.{found}
-use Rattle.masks.proofs.Free.{free}
 use Rattle.chip.proofs.system.System.collision.Goals as goal
 
 pub returns-then-enabled : goal.returns-then-enabled

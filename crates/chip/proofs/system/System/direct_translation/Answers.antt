@@ -1,9 +1,7 @@
 -- `System::direct_translation` meets its contract: by where the match was found. Assumes nothing.
-use borrow.Author.Rules.{rules}
 use mathlib.Core.Path.{sym, ◌∙◌}
 use Rattle.chip.specs.Translation.{result_at, direct_translation}
 use Rattle.chip.proofs.Near.{searched_located}
-use Rattle.masks.proofs.Free.{free}
 use Rattle.chip.proofs.system.System.direct_translation.Goals as goal
 
 pub translated_at-requires : goal.translated_at-requires

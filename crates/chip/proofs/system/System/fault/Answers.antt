@@ -1,6 +1,5 @@
 -- `System::fault` meets its contract. Assumes nothing.
 use Rattle.chip.specs.Access.{fault}
-use Rattle.masks.proofs.Free.{free}
 use Rattle.chip.proofs.system.System.fault.Goals as goal
 
 pub returns : goal.returns

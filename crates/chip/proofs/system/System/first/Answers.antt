@@ -1,16 +1,13 @@
 -- `System::first` meets its contract: no place that it has passed fits. Assumes nothing.
 use mathlib.Core.Path.{◌≡◌, refl, sym, ◌∙◌}
 use mathlib.Core.Bool.{false}
-use mathlib.Core.Logic.{⊎_elim}
 use native.Mathlib.Omega.{arith}
-use Prim.Native.Nat.{ℕ, ◌+◌, ◌≤◌, ◌<◌, ◌-◌}
 use Rattle.chip.specs.System.{descriptor}
 use Rattle.chip.specs.Search.{admits, answers}
 use Rattle.chip.specs.declared.search.Sought.{Sought}
 use Rattle.chip.specs.declared.search.Sought.TheVariants.{Clash, Pending}
 use Rattle.descriptors.specs.declared.descriptor.Descriptor.{Descriptor}
 use Rattle.chip.proofs.First.{first_at, first_nowhere, one_more}
-use Rattle.masks.proofs.Free.{free}
 use Rattle.chip.proofs.system.System.first.Goals as goal
 use Rattle.chip.proofs.system.System.first.Goals.{then-admits+else-answers, else-admits}
 
@@ -31,10 +28,10 @@ loop-i-preserved c =
     let at = c.loop-i in
     let a = c.args in
     let no : answers a.sought (descriptor a.self at.i) ≡ false =
-        elim c.if-admits.branch [
-          then-admits+else-answers w ↦ sym w.answers.ensures ∙ w.if-answers.false
-          | else-admits w ↦ not_admitted a.sought (descriptor a.self at.i) (sym c.admits.ensures ∙ w.if-admits.false)
-        ] in
+    elim c.if-admits.branch [
+      | then-admits+else-answers w ↦ sym w.answers.ensures ∙ w.if-answers.false
+      | else-admits w ↦ not_admitted a.sought (descriptor a.self at.i) (sym c.admits.ensures ∙ w.if-admits.false)
+    ] in
     (omega arith, omega arith, one_more _ at.i at.invariant.2 no)
 
 pub returns : goal.returns

@@ -1,10 +1,6 @@
 -- `System::in_all` meets its contract: the units below m are changed, the others are as they were. Assumes nothing.
-use native.Mathlib.Omega.{arith}
-use Prim.Native.Nat.{◌-◌}
-use Rattle.registers.specs.Change.{changed}
 use Rattle.chip.specs.System.{with_units}
-use Rattle.chip.proofs.Units.{Done, begun, next, ended}
-use Rattle.masks.proofs.Free.{free}
+use Rattle.chip.proofs.Units.{begun, next, ended}
 use Rattle.chip.proofs.system.System.in_all.Goals as goal
 
 pub loop-m-preserved : goal.loop-m-preserved

@@ -1,13 +1,9 @@
 -- `System::inconsistent` meets its contract: no unit that it has passed lacks a byte. Assumes nothing.
-use mathlib.Core.Path.{◌≡◌, sym, ap, ◌∙◌}
-use mathlib.Core.Bool.{not, false}
+use mathlib.Core.Path.{sym, ap, ◌∙◌}
+use mathlib.Core.Bool.{not}
 use native.Mathlib.Omega.{arith}
-use Prim.Native.Nat.{ℕ, ◌≤◌, ◌<◌, ◌-◌}
-use Rattle.registers.specs.Unit.{consistent, needed}
-use Rattle.chip.specs.System.{unit}
 use Rattle.chip.specs.Search.{found}
 use Rattle.chip.proofs.First.{first_at, first_nowhere, one_more}
-use Rattle.masks.proofs.Free.{free}
 use Rattle.chip.proofs.system.System.inconsistent.Goals as goal
 
 pub loop-m-init : goal.loop-m-init

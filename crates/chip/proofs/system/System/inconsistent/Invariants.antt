@@ -1,13 +1,9 @@
 -- What the loop of `inconsistent` keeps.
-use mathlib.Core.Path.{◌≡◌, sym, ap, ◌∙◌}
+use mathlib.Core.Path.{◌≡◌}
 use mathlib.Core.Bool.{not, false}
-use native.Mathlib.Omega.{arith}
 use Prim.Native.Nat.{ℕ, ◌≤◌, ◌<◌, ◌-◌}
 use Rattle.registers.specs.Unit.{consistent, needed}
 use Rattle.chip.specs.System.{unit}
-use Rattle.chip.specs.Search.{found}
-use Rattle.chip.proofs.First.{first_at, first_nowhere, one_more}
-use Rattle.masks.proofs.Free.{free}
 use Rattle.chip.proofs.system.System.inconsistent.Given as goal
 
 abbrev pub invariant-loop-m : goal.invariant-loop-m

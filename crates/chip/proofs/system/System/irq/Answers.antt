@@ -1,9 +1,7 @@
 -- `System::irq` meets its contract: the `&&` takes the arm that its left side says. Assumes nothing.
-use borrow.Author.Rules.{rules}
 use mathlib.Core.Path.{refl, ap, ◌∙◌}
 use Rattle.masks.proofs.Flags.{and_taken}
 use Rattle.chip.specs.Search.{found}
-use Rattle.masks.proofs.Free.{free}
 use Rattle.chip.proofs.system.System.irq.Goals as goal
 
 pub returns-then-self : goal.returns-then-self

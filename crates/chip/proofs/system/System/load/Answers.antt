@@ -1,7 +1,5 @@
 -- `System::load` meets its contract. Assumes nothing.
 use Rattle.chip.specs.Load.{load}
-use borrow.Author.Rules.{rules}
-use Rattle.masks.proofs.Free.{free}
 use Rattle.chip.proofs.system.System.load.Goals as goal
 
 pub returns : goal.returns

@@ -1,7 +1,5 @@
 -- `System::load_at` meets its contract: by whether d collides, once the place is disabled. Assumes nothing.
-use borrow.Author.Rules.{rules}
 use Rattle.chip.specs.Load.{load_at}
-use Rattle.masks.proofs.Free.{free}
 use Rattle.chip.proofs.system.System.load_at.Goals as goal
 
 pub returns-then-collision : goal.returns-then-collision

@@ -1,5 +1,4 @@
 -- `System::nothing` meets its contract. Assumes nothing.
-use Rattle.masks.proofs.Free.{free}
 use Rattle.chip.proofs.system.System.nothing.Goals as goal
 
 pub returns : goal.returns

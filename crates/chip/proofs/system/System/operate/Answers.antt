@@ -1,7 +1,5 @@
 -- `System::operate` meets its contract: a read answers its byte, a write is done. Assumes nothing.
-use borrow.Author.Rules.{rules}
 use Rattle.chip.specs.Register.{operate}
-use Rattle.masks.proofs.Free.{free}
 use Rattle.chip.proofs.system.System.operate.Goals as goal
 
 pub returns-in-Read : goal.returns-in-Read

@@ -1,7 +1,5 @@
 -- `System::perform` meets its contract: call by call. Assumes nothing.
-use borrow.Author.Rules.{rules}
 use Rattle.chip.specs.Call.{performed}
-use Rattle.masks.proofs.Free.{free}
 use Rattle.chip.proofs.system.System.perform.Goals as goal
 
 pub returns-in-Reset : goal.returns-in-Reset

@@ -1,5 +1,4 @@
 -- `System::pointed` meets its contract. Assumes nothing.
-use borrow.Author.Rules.{rules}
 use Rattle.chip.proofs.system.System.pointed.Goals as goal
 
 pub returns : goal.returns

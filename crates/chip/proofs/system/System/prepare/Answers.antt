@@ -1,9 +1,6 @@
 -- `System::prepare` meets its contract: the bytes go out one by one. Assumes nothing.
-use borrow.Author.Rules.{rules}
 use mathlib.Core.Path.{sym, ◌∙◌}
-use borrow.Author.Tests.{not-true, not-false}
 use Rattle.chip.specs.Prepare.{prepare}
-use Rattle.masks.proofs.Free.{free}
 use Rattle.chip.proofs.system.System.prepare.Goals as goal
 
 pub returns-then-not-inconsistent : goal.returns-then-not-inconsistent

@@ -1,7 +1,5 @@
 -- `System::read` meets its contract: register by register. Assumes nothing.
-use borrow.Author.Rules.{rules}
 use Rattle.chip.specs.Register.{read}
-use Rattle.masks.proofs.Free.{free}
 use Rattle.chip.proofs.system.System.read.Goals as goal
 
 pub returns-in-Lsr : goal.returns-in-Lsr

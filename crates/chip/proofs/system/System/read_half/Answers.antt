@@ -1,8 +1,6 @@
 -- `System::read_half` meets its contract. Assumes nothing.
-use borrow.Author.Rules.{rules}
 use Rattle.chip.specs.System.{with_descriptor}
 use Rattle.chip.specs.Access.{read_half}
-use Rattle.masks.proofs.Free.{free}
 use Rattle.chip.proofs.system.System.read_half.Goals as goal
 
 pub returns-then-reads_first : goal.returns-then-reads_first

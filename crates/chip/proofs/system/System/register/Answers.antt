@@ -3,7 +3,6 @@ use mathlib.Core.Path.{sym, ◌∙◌}
 use native.Mathlib.Omega.{arith}
 use borrow.Author.Tests.{lt-ltb, le-ltb}
 use Rattle.chip.proofs.Counts.{well_counted}
-use Rattle.masks.proofs.Free.{free}
 use Rattle.chip.proofs.system.System.register.Goals as goal
 
 pub returns-then-miscounted : goal.returns-then-miscounted

@@ -1,26 +1,19 @@
 -- `System::search` meets its contract: no place that it has passed matches, and the near one is the first of them. Assumes nothing.
 use mathlib.Core.Path.{◌≡◌, refl, sym, ap, ◌∙◌}
-use mathlib.Core.Bool.{false, not, cond}
+use mathlib.Core.Bool.{false, not}
 use lib.Dec.{eqb}
-use mathlib.Core.Logic.{⊎_elim}
 use native.Mathlib.Omega.{arith}
-use borrow.Author.Rules.{rules}
-use Prim.Native.Nat.{ℕ, ◌+◌, ◌*◌, ◌≤◌, ◌<◌, ◌-◌}
+use Prim.Native.Nat.{ℕ, ◌*◌}
 use Rattle.masks.proofs.Bits.{bit_test}
-use Rattle.masks.proofs.Free.{free}
 use Rattle.descriptors.specs.Status.{E}
-use Rattle.descriptors.specs.Descriptor.{enabled, matches, match_answer, is_yes, space_alone}
+use Rattle.descriptors.specs.Descriptor.{enabled, match_answer}
 use Rattle.descriptors.specs.declared.descriptor.Descriptor.{Descriptor}
-use Rattle.descriptors.specs.declared.descriptor.Match.{Match}
 use Rattle.descriptors.specs.declared.descriptor.Match.TheVariants.{Disabled, RangeDiffers, SpaceDiffers, BothDiffer}
-use Rattle.descriptors.proofs.Match.{yes_matches}
 use Rattle.chip.specs.System.{present, descriptor}
-use Rattle.chip.specs.Search.{first, or_at, matching, searched}
-use Rattle.chip.specs.declared.system.System.{System}
-use Rattle.chip.specs.declared.search.Found.{Found}
+use Rattle.chip.specs.Search.{first, matching, searched}
 use Rattle.chip.specs.declared.search.Found.TheVariants.{At, Nowhere}
-use Rattle.chip.proofs.First.{first_at, first_nowhere, first_found, first_more, one_more}
-use Rattle.chip.proofs.Passed.{Passed, matched, pass}
+use Rattle.chip.proofs.First.{first_at, first_nowhere, first_found}
+use Rattle.chip.proofs.Passed.{matched, pass}
 use Rattle.chip.proofs.system.System.search.Goals as goal
 use Rattle.chip.proofs.system.System.search.Goals.{then-self-i-ne0+in-SpaceDiffers, then-self-i-ne0+in-Disabled, then-self-i-ne0+in-RangeDiffers, then-self-i-ne0+in-BothDiffer, else-self-i-ne0}
 
@@ -51,7 +44,7 @@ loop-i-preserved c =
     let passed = at.invariant.1 in (
       omega arith,
       elim c.if-self-i-ne0.branch [
-        then-self-i-ne0+in-SpaceDiffers w ↦ step SpaceDiffers (sym w.match_answer.ensures ∙ w.in-SpaceDiffers.is) refl (w.near-is ∙ w.or_at-near.ensures) passed
+        | then-self-i-ne0+in-SpaceDiffers w ↦ step SpaceDiffers (sym w.match_answer.ensures ∙ w.in-SpaceDiffers.is) refl (w.near-is ∙ w.or_at-near.ensures) passed
         | then-self-i-ne0+in-Disabled w ↦ step Disabled (sym w.match_answer.ensures ∙ w.in-Disabled.is) refl w.near-is passed
         | then-self-i-ne0+in-RangeDiffers w ↦ step RangeDiffers (sym w.match_answer.ensures ∙ w.in-RangeDiffers.is) refl w.near-is passed
         | then-self-i-ne0+in-BothDiffer w ↦ step BothDiffer (sym w.match_answer.ensures ∙ w.in-BothDiffer.is) refl w.near-is passed

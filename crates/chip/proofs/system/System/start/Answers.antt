@@ -1,11 +1,9 @@
 -- `System::start` meets its contract: the checks in their order, then the new system. Assumes nothing.
-use borrow.Author.Rules.{rules}
 use mathlib.Core.Path.{sym, ◌∙◌}
 use native.Mathlib.Omega.{arith}
 use borrow.Author.Tests.{lt-ltb, le-ltb}
 use Rattle.chip.specs.Reset.{fresh}
 use Rattle.chip.proofs.Counts.{well_counted}
-use Rattle.masks.proofs.Free.{free}
 use Rattle.chip.proofs.system.System.start.Goals as goal
 
 pub returns-then-miscounted : goal.returns-then-miscounted

@@ -1,7 +1,5 @@
 -- `System::transfer` meets its contract. Assumes nothing.
 use Rattle.chip.specs.Transfer.{transfer}
-use borrow.Author.Rules.{rules}
-use Rattle.masks.proofs.Free.{free}
 use Rattle.chip.proofs.system.System.transfer.Goals as goal
 
 pub returns : goal.returns

@@ -1,7 +1,5 @@
 -- `System::translate_at` meets its contract: by where the match was found. Assumes nothing.
-use borrow.Author.Rules.{rules}
 use Rattle.chip.specs.Access.{translate_at}
-use Rattle.masks.proofs.Free.{free}
 use Rattle.chip.proofs.system.System.translate_at.Goals as goal
 
 pub match_at-requires : goal.match_at-requires

@@ -1,7 +1,5 @@
 -- `System::translated_at` meets its contract. Assumes nothing.
 use Rattle.chip.specs.Translation.{result_at}
-use borrow.Author.Rules.{rules}
-use Rattle.masks.proofs.Free.{free}
 use Rattle.chip.proofs.system.System.translated_at.Goals as goal
 
 pub returns : goal.returns

@@ -1,6 +1,5 @@
 -- `System::undefined` meets its contract. Assumes nothing.
 use Rattle.chip.specs.Access.{undefined}
-use Rattle.masks.proofs.Free.{free}
 use Rattle.chip.proofs.system.System.undefined.Goals as goal
 
 pub returns : goal.returns

@@ -1,7 +1,5 @@
 -- `System::violation` meets its contract. Assumes nothing.
 use Rattle.chip.specs.Access.{violation}
-use borrow.Author.Rules.{rules}
-use Rattle.masks.proofs.Free.{free}
 use Rattle.chip.proofs.system.System.violation.Goals as goal
 
 pub returns : goal.returns

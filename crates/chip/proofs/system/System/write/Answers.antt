@@ -1,7 +1,5 @@
 -- `System::write` meets its contract: register by register. Assumes nothing.
-use borrow.Author.Rules.{rules}
 use Rattle.chip.specs.Register.{write}
-use Rattle.masks.proofs.Free.{free}
 use Rattle.chip.proofs.system.System.write.Goals as goal
 
 pub returns-in-Ast : goal.returns-in-Ast

@@ -2,7 +2,6 @@
 use mathlib.Core.Path.{sym, ap, ◌∙◌}
 use Rattle.chip.specs.Register.{write_gsr}
 use Rattle.registers.specs.declared.shared.Gsr.{Gsr}
-use Rattle.masks.proofs.Free.{free}
 use Rattle.chip.proofs.system.System.write_gsr.Goals as goal
 
 pub returns-then-gsr : goal.returns-then-gsr

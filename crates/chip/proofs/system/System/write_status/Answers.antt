@@ -1,7 +1,5 @@
 -- `System::write_status` meets its contract. Assumes nothing.
 use Rattle.chip.specs.Transfer.{write_status}
-use borrow.Author.Rules.{rules}
-use Rattle.masks.proofs.Free.{free}
 use Rattle.chip.proofs.system.System.write_status.Goals as goal
 
 pub returns : goal.returns

@@ -1,5 +1,4 @@
 -- `Descriptor::clashes` meets its contract: the `&&` takes the arm that its left side says. Assumes nothing.
-use borrow.Author.Rules.{rules}
 use Rattle.masks.proofs.Flags.{and_taken, and_left}
 use Rattle.descriptors.specs.Descriptor.{clashes}
 use Rattle.descriptors.proofs.descriptor.Descriptor.clashes.Goals as goal

@@ -1,6 +1,5 @@
 -- `Descriptor::collides` meets its contract: by its `&&`. Assumes nothing.
 use Rattle.masks.proofs.Flags.{and_taken, and_left}
-use Rattle.masks.proofs.Free.{free}
 use Rattle.descriptors.proofs.descriptor.Descriptor.collides.Goals as goal
 
 pub returns-then-enabled : goal.returns-then-enabled

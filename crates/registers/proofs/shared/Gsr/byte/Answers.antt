@@ -1,7 +1,6 @@
 -- `Gsr::byte` meets its contract: the three flags at their places. Assumes nothing.
 use native.Mathlib.Omega.{arith}
 use Rattle.registers.proofs.Numbers.{flag_byte, flag_small}
-use borrow.Author.Rules.{rules}
 use Rattle.registers.proofs.shared.Gsr.byte.Goals as goal
 
 pub overflow_mul-result : goal.overflow_mul-result

@@ -1,6 +1,4 @@
 -- `Unit::change` meets its contract. Assumes nothing.
-use borrow.Author.Rules.{rules}
-use Rattle.masks.proofs.Free.{free}
 use Rattle.registers.proofs.unit.Unit.change.Goals as goal
 
 pub returns-in-Ac : goal.returns-in-Ac

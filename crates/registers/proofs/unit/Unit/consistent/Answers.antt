@@ -1,6 +1,4 @@
 -- `Unit::consistent` meets its contract. Assumes nothing.
-use borrow.Author.Rules.{rules}
-use Rattle.masks.proofs.Free.{free}
 use Rattle.registers.proofs.unit.Unit.consistent.Goals as goal
 
 pub returns-in-Translation : goal.returns-in-Translation

@@ -1,8 +1,6 @@
 -- `Unit::lsr` meets its contract: L, RW and the three flags at their places. Assumes nothing.
 use native.Mathlib.Omega.{arith}
 use Rattle.registers.proofs.Numbers.{flag_byte, flag_small, held_small}
-use borrow.Author.Rules.{rules}
-use Rattle.masks.proofs.Free.{free}
 use Rattle.registers.proofs.unit.Unit.lsr.Goals as goal
 
 pub overflow_add-result : goal.overflow_add-result

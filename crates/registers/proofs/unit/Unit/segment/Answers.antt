@@ -1,6 +1,4 @@
 -- `Unit::segment` meets its contract. Assumes nothing.
-use borrow.Author.Rules.{rules}
-use Rattle.masks.proofs.Free.{free}
 use Rattle.registers.proofs.unit.Unit.segment.Goals as goal
 
 pub returns : goal.returns

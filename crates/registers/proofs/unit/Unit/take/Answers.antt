@@ -1,6 +1,5 @@
 -- `Unit::take` meets its contract: none of the nine bytes is marked. Assumes nothing.
 use Rattle.masks.specs.Fields.{bit}
-use Rattle.masks.proofs.Free.{free}
 use Rattle.registers.specs.Unit.{accumulator_of}
 use Rattle.registers.proofs.unit.Unit.take.Goals as goal
 
