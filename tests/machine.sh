@@ -2,8 +2,7 @@
 # Sourced by the scripts here and in examples/: where the library and the bench
 # program are, and how a program is compiled and run on this machine. They are
 # x86-64 code. On x86-64 plain gcc makes a program and it runs by itself; on
-# aarch64 a cross compiler makes it, and it runs under the emulator of the Rattle
-# kit.
+# aarch64 a cross compiler makes it, and it runs under an emulator.
 #
 #     find_library        finds the library or has it made; sets $library
 #     find_program        the same for the bench; "${program[@]}" are the words that run it
@@ -35,59 +34,56 @@ need() {
     command -v "$command" >/dev/null || stop "$command is missing, and apt-get could not install $*"
 }
 
-kit=$(command -v rt) || stop "the Rattle kit is missing: 'rt' is not on the PATH"
-kit=$(dirname "$(dirname "$(readlink -f "$kit")")")/on/$machine/toolchain
+command -v rt >/dev/null || stop "the Rattle kit is missing: 'rt' is not on the PATH"
 case $machine in
 x86_64) emulator=() ;;
 aarch64)
-    emulator=("$kit/bin/qemu-x86_64")
-    [ -x "${emulator[0]}" ] || stop "the kit has no x86-64 emulator at $kit/bin"
+    need qemu-x86_64 qemu-user libc6-amd64-cross
+    emulator=(qemu-x86_64 -L /usr/x86_64-linux-gnu)
     ;;
 *) stop "there is no way here to run x86-64 programs on $machine" ;;
 esac
 
 # Whether a file that is made of the code is missing or older than code and proofs.
 out_of_date() { # FILE
-    [ ! -f "$1" ] || [ -n "$(find "$root/crates" \( -name '*.rt' -o -name '*.antt' \) -newer "$1" -print -quit)" ]
+    [ ! -f "$1" ] || [ -n "$(find "$root/crates" -name out -prune -o \( -name '*.rt' -o -name '*.antt' \) -newer "$1" -print -quit)" ]
 }
 
-# Runs rt, and shows of what it says one line for each crate, or all where it fails.
-proving() { # WORDS..
-    echo "proving what has changed (all of it: 3 minutes, the crate chip the longest)" >&2
+# Runs rt in the folder of a crate, and shows of what it says one line for each crate, or all where it fails.
+proving() { # CRATE WORDS..
+    local crate=$1
+    shift
+    echo "proving what has changed (all of it: some minutes, the crate chip the longest)" >&2
     mkdir -p "$root/target"
-    (cd "$root" && rt "$@" 2>&1) | tee "$root/target/proving.log" | grep --line-buffered '^rt:' >&2
+    (cd "$root/crates/$crate" && rt "$@" 2>&1 </dev/null) | tee "$root/target/proving.log" | grep --line-buffered '^crate ' >&2
     [ "${PIPESTATUS[0]}" -eq 0 ] && return
     cat "$root/target/proving.log" >&2
-    stop "'rt $*' failed"
+    stop "'rt $*' failed in crates/$crate"
 }
 
+# The library for C is that of the crate cleftromi_c, under the name that hosts know.
 find_library() {
     library=${CLEFTROMI_LIB:-$root/target/staticlib/libcleftromi.a}
     if [ -z "${CLEFTROMI_LIB:-}" ] && out_of_date "$library"; then
         rm -f "$library"
-        proving staticlib cleftromi
+        proving cleftromi_c lib
+        mkdir -p "$(dirname "$library")" && cp "$root/crates/cleftromi_c/out/libcleftromi_c.a" "$library"
     fi
     [ -f "$library" ] || stop "there is no library at $library"
     library=$(readlink -f "$library") # a script may stand elsewhere when it compiles
 }
 
-# 'rt check' makes no program for a crate that has not changed since it was proved,
-# so its note of that goes with the old program. A program of the kit needs the
-# kit's loader and C library; one that is static has need of none.
+# 'rt run' proves and builds the program, and runs it: here on no input.
 find_program() {
-    local path=${CLEFTROMI_BENCH:-$root/target/bin/bench} loader=$kit/lib/ld-linux-x86-64.so.2
+    local path=${CLEFTROMI_BENCH:-$root/target/bin/bench}
     if [ -z "${CLEFTROMI_BENCH:-}" ] && out_of_date "$path"; then
-        rm -f "$path" "$root/target/stamp/bench"
-        proving check bench
+        rm -f "$path"
+        proving bench run
+        mkdir -p "$(dirname "$path")" && cp "$root/crates/bench/out/bench" "$path"
     fi
     [ -f "$path" ] || stop "there is no bench program at $path"
-    path=$(readlink -f "$path")
     # shellcheck disable=SC2034 # for the scripts that source this
-    if "${emulator[@]}" "$loader" --verify "$path" >/dev/null 2>&1; then
-        program=("${emulator[@]}" "$loader" --library-path "$kit/lib" "$path")
-    else
-        program=("${emulator[@]}" "$path")
-    fi
+    program=("${emulator[@]}" "$(readlink -f "$path")")
 }
 
 # A compiler for x86-64: it is asked for by those who compile.
