@@ -92,6 +92,7 @@ pub(crate) fn bad() -> Text
     Text::of(b"bad\n")
 }
 
+#[tactic(auto, unfolding(crate::specs::Print::printed))]
 pub(crate) fn print(values: Values, irq: bool) -> Text
     ensures { result ≡ text (printed values irq) }
 {
