@@ -143,7 +143,6 @@ fn acknowledge(line: &[u8]) -> Line
     })
 }
 
-#[tactic(auto, unfolding(crate::specs::Line::meaning))]
 pub(crate) fn parse(line: &[u8]) -> Line
     ensures { result ≡ meaning line.now }
 {
