@@ -131,8 +131,8 @@ silent address r e =
 
 translation_told : (x : Search) (page : ℕ) (s : System) → Told 0x3D (result_at x page s)
 unfolding result_at
-translation_told (Match i) page s = silent 0x3D _ refl
-translation_told (NoMatch near) page s = record { where_from = λ q. refl; answers_ff = λ q. refl }
+translation_told (Match i) p s = silent 0x3D _ refl
+translation_told (NoMatch near) p s = record { where_from = λ q. refl; answers_ff = λ q. refl }
 
 load_near : (d : Descriptor) (i : ℕ) (s : System) → (load_at d i s).near ≡ Nothing
 unfolding load_at

@@ -3,6 +3,7 @@
 --     copied_more  a loop that copies a list, one store a turn
 --     appended     a part lent to a function that writes its front
 --     further, further_zeros, further_copy    the same, for one part after the other
+--     replaced    bytes behind what is written that are copied over
 --     further_stores    stores behind what is written
 --     begun, next, placed, ended    a loop that lends the part from w * m on to a function that writes piece m, or copies piece m there
 --     pieces_at    where piece m stands
@@ -61,9 +62,14 @@ further_zeros p e b t n k m h l j g =
     let long : k ≤ length (take (length b - n) (drop n b)) = simp (length-take, length-drop) (omega (arith, size, h.0)) in
     further p (replicate k 0) e b t n k m h (length-replicate k 0) j (g ∙ zeroed_front k _ long)
 
+-- the same, of a part that the k bytes x are copied to
+pub further_copy : (p x e b t : List ℕ) (n k m : ℕ) → Front p n e b → length x ≡ k → n + k ≡ m
+    → t ≡ take (length x) x ++ drop (length x) (take (length b - n) (drop n b)) → Front (p ++ x) m e (put_mid n (length b - n) b t)
+further_copy p x e b t n k m h l j g = further p x e b t n k m h l j (g ∙ rw (l, take_all k x (omega (arith, l))))
+
 -- k bytes from n on, which become the k bytes x
-pub further_copy : (p x e b t : List ℕ) (n k m : ℕ) → Front p n e b → length x ≡ k → n + k ≡ m → t ≡ x → Front (p ++ x) m e (put_mid n k b t)
-further_copy p x e b t n k m h l j g =
+pub replaced : (p x e b t : List ℕ) (n k m : ℕ) → Front p n e b → length x ≡ k → n + k ≡ m → t ≡ x → Front (p ++ x) m e (put_mid n k b t)
+replaced p x e b t n k m h l j g =
     (length-append p x ∙ omega (arith, h.0), rw (g, h.1, take_at p (drop n e) n h.0, drop_at p (drop n e) n h.0, drop-drop, j, append_assoc))
 
 -- stores from n on, one after the other
@@ -108,7 +114,7 @@ placed w f h n e b t m k whole d l g q =
     let more : w * (m + 1) ≡ w * m + w = omega arith in (
       omega arith,
       same_len_mid (w * m) k b t g ∙ d.1,
-      rw (whole, more, add-one) (further_copy (pieces m f) (f m) e b t (w * m) w (w * m + w) (length_pieces w f h m, d.2) (h m) refl q).1,
+      rw (whole, more, add-one) (replaced (pieces m f) (f m) e b t (w * m) w (w * m + w) (length_pieces w f h m, d.2) (h m) refl q).1,
     )
 
 pub ended : (w : ℕ) (f : ℕ → List ℕ) (n : ℕ) (e b : List ℕ) (m : ℕ) → Done w f n e b m → n ≤ m → b ≡ pieces n f ++ drop (w * n) e

@@ -9,7 +9,7 @@ use Rattle.registers.specs.Shared.{gsr_byte}
 use Rattle.registers.specs.declared.shared.Shared.{Shared}
 use Rattle.block.specs.Layout.{shared_bytes}
 use Rattle.pieces.proofs.Bytes.{zeroed_front}
-use Rattle.pieces.proofs.Parts.{further_copy}
+use Rattle.pieces.proofs.Parts.{replaced}
 use Rattle.block.proofs.write.put_shared.Goals as goal
 
 -- what stands in the slice before the table is written
@@ -25,4 +25,4 @@ returns c =
     let front : List ℕ = h.board.count % 256 ∷ gsr_byte h.gsr ∷ h.ivr ∷ replicate 13 0 in
     let written : b ≡ front ++ drop 16 e = rw (c.put_zeros.ensures ∙ zeroed_front 16 e (omega arith), c.byte.ensures) in
     let size : length h.table ≡ 16 = search rules in
-    (further_copy front h.table e b c.copy_from_slice.new.self 16 16 32 (refl, written) size refl c.copy_from_slice.ensures.after).1
+    (replaced front h.table e b c.copy_from_slice.new.self 16 16 32 (refl, written) size refl c.copy_from_slice.ensures.after).1

@@ -1,6 +1,6 @@
 -- `put_head` meets its contract: two stores, then the table. Assumes nothing.
 use Rattle.std.proofs.Common.{◌≡◌, ℕ, ◌%◌, List, [], ◌∷◌, length, refl, arith, rules}
-use Rattle.pieces.proofs.Parts.{further_stores, further_copy}
+use Rattle.pieces.proofs.Parts.{further_stores, replaced}
 use Rattle.image.proofs.write.put_head.Goals as goal
 
 pub returns : goal.returns
@@ -10,5 +10,5 @@ returns c =
     let e = start.args.b.now in
     let two : List ℕ = start.args.m ∷ h.board.count % 256 ∷ [] in
     let size : length h.table ≡ 16 = search rules in
-    (further_copy two h.table e _ c.copy_from_slice.new.self 2 16 18
+    (replaced two h.table e _ c.copy_from_slice.new.self 2 16 18
     (further_stores [] two e e 0 2 (refl, refl) refl (omega arith)) size refl c.copy_from_slice.ensures.after).1
