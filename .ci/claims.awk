@@ -3,23 +3,23 @@
 
 function fault(why) { faults = faults (faults ? "; " : "") why }
 
-# What the 'ensures' equate, each '{ λ r. ⌜ LEFT ≡ DEFINITION ⌝ }': into said[], by which of them the result is equated ("")
-# or what lies behind a parameter at exit; into clauses and definitions, how many there are and their text.
-function promise(says, n,   i, result, left, definition, at) {
+# What the 'ensures' equate, each 'NAME { LEFT ≡ DEFINITION }', of which only a single one may lack its name: into said[], by
+# which of them the result is equated ("") or what lies behind a parameter at exit; into clauses and definitions, how many there
+# are and their text.
+function promise(says, n,   i, left, definition, at) {
     split("", said)
     definitions = ""
     clauses = n
     for (i = 1; i <= n; i++) {
-        result = definition = says[i + 1]
-        sub(/\..*/, "", result)
-        sub(/^[^.]*\. ⌜ /, "", definition)
-        sub(/ ⌝.*/, "", definition)
+        definition = says[i + 1]
+        sub(/ *\{ *}? *$/, "", definition)
+        sub(/ *} *$/, "", definition)
         at = index(definition, " ≡ ")
         left = substr(definition, 1, at - 1)
         definition = "`" substr(definition, at + length(" ≡ ")) "`"
-        if (left == result) said[""] = i
-        else if (left ~ /^now \([^ ]+ \.exit\)$/) {
-            gsub(/^now \(| \.exit\)$/, "", left)
+        if (left == "result") said[""] = i
+        else if (left ~ /^[a-z_0-9]+\.new$/) {
+            sub(/\.new$/, "", left)
             said[left] = i
             definition = "behind `" left "`: " definition
         } else fault("an 'ensures' equates neither the result nor what lies behind a '&mut'")
@@ -32,9 +32,9 @@ function promise(says, n,   i, result, left, definition, at) {
 # (1st, (2nd, .. last)).
 function parts(of,   i, at) {
     if (!(of in said)) fault("no 'ensures' says what " (of == "" ? "it answers" : "lies behind '" of "'"))
-    for (i = 1; i < said[of]; i++) at = at " .1"
-    if (i < clauses) at = at " .0"
-    return at == "" ? "p q" : "(p" at ") (q" at ")"
+    for (i = 1; i < said[of]; i++) at = at ".1"
+    if (i < clauses) at = at ".0"
+    return "p" at " q" at
 }
 
 # That two outcomes are equal, from p and q, that each keeps the promise: (the result, a tuple over the parameters).
@@ -56,14 +56,20 @@ function proof(signature,   params, param, i, lent, lasts) {
     return "(" (signature ~ /->/ ? "same " parts("") : "refl") ", " lasts ")"
 }
 
-# TYPE-NAME, or MODULE-NAME, and CRATE-NAME of a function that has its module's name; with the crate where that is taken.
-function claim(path, name,   of, text) {
+# TypeName of a method; module_name, and crate_name of a function that has its module's name; with the crate where that is taken.
+function claim(path, name,   of, text, words, n, i) {
     of = path
     sub(/\.$/, "", of)
     sub(/.*\./, "", of)
-    text = of == "" ? name : (of == name ? crate : of) "-" name
-    gsub(/_/, "-", text)
-    if (text in taken) text = crate "-" text
+    if (of ~ /^[A-Z]/) {
+        text = of
+        n = split(name, words, "_")
+        for (i = 1; i <= n; i++) text = text toupper(substr(words[i], 1, 1)) substr(words[i], 2)
+        if (text in taken) text = toupper(substr(crate, 1, 1)) substr(crate, 2) text
+    } else {
+        text = of == "" ? name : (of == name ? crate : of) "_" name
+        if (text in taken) text = crate "_" text
+    }
     taken[text] = 1
     return text
 }
@@ -72,7 +78,7 @@ function report(head,   says, n, name, path, called, text) {
     faults = head ~ / requires / ? "it has a 'requires', and a public function may not" : ""
     gsub(/ +/, " ", head)
     gsub(/«|»/, "", head)
-    n = split(head, says, / ensures \{ λ /) - 1
+    n = split(head, says, / ensures ([a-z0-9_]+ )?\{ /) - 1
     promise(says, n)
     match(head, /fn [A-Za-z0-9_]+/)
     name = substr(head, RSTART + 3, RLENGTH - 3)
@@ -80,7 +86,7 @@ function report(head,   says, n, name, path, called, text) {
     called = (type ? type "." : module) name
     gsub(/\./, "::", called)
     text = proof(says[1])
-    print crate "\t" called "\tRattle·" crate ".proofs." path name "\t" claim(path, name) \
+    print crate "\t" called "\tRattle." crate ".proofs." path name "\t" claim(path, name) \
         "\t" (head ~ / extern "C" fn / ? "C" : "Rattle") "\t" text "\t" (faults ? faults : "-") "\t" definitions
 }
 

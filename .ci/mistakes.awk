@@ -2,14 +2,17 @@
 # crate's sources in the layout of 'rt fmt' and then its must-fail/*.edit.
 #
 # An .edit file holds mistakes, each of the lines
-#     NAME: what is wrong
-#     at: PLACE DECLARATION
+#     # NAME: what is wrong
+#     # at: PLACE DECLARATION
 #     file: FILE      and, for each change, old: TEXT and new: TEXT
+# The first two are comments to rt.
 #
 # A function's proof uses its own body and the contracts of what it calls. So a mistake in a body moves that function's proof
 # and nothing else. Any other change moves all that mentions what was changed, at one remove or several: definitions, laws, the
-# functions whose contract or proof does, and those that call one whose contract does. Names are compared without their module,
-# and names bound in a term count, too, so more counts as moved than is.
+# functions whose contract, attributes or proof do, and those that call one whose contract does. Names are compared without their
+# module, and names bound in a term count, too, so more counts as moved than is.
+#
+# A function's proof is proofs/F/Proof.antt, or Invariants.antt and Answers.antt there, or is found by search, without a file.
 #
 # Printed, with tabs: 'mistake' LABEL NAME PLACE DECLARATION, 'moves' LABEL WHAT, and 'fault' LABEL WHY. WHAT is a function by the
 # folder of its proof, FILE#DECLARATION, or * for all there is.
@@ -59,10 +62,10 @@ function open_item(name) {
 
 FNR == 1 {
     rel = relative(FILENAME)
-    kind = rel ~ /^must-fail\// ? "edit" : rel ~ /\.rt$/ ? "code" : rel ~ /\/Proof\.antt$/ ? "proof" : "antt"
+    kind = rel ~ /^must-fail\// ? "edit" : rel ~ /\.rt$/ ? "code" : rel ~ /^proofs\/.*\/(Answers|Invariants|Proof)\.antt$/ ? "proof" : "antt"
     type = ""; fn = ""; part = ""; constant = ""; item = ""; base = 0; sections = 0; data = 0
     label = rel; sub(/^must-fail\//, "", label); sub(/\.edit$/, "", label)
-    mistake = 0; file = ""; old = ""
+    mistake = 0; file = ""; old = ""; attributes = ""
 }
 
 # where each type is declared: a method's proof stands by its type's file
@@ -92,12 +95,15 @@ kind == "code" {
         bare = substr(line, RSTART + 3, RLENGTH - 3)
         fn = (type ? home[type] type "/" : path_of(rel)) bare
         bare_of[fn] = bare; file_of[fn] = rel; functions[++function_count] = fn
+        mention(fn, attributes); attributes = ""
         match(line, /^ */); indent = RLENGTH
         part = "contract"
     } else if (!fn && match(line, /^ *(pub(\([a-z]+\))? )?const [A-Z0-9_]+/)) {
         constant = substr(line, RSTART, RLENGTH); sub(/.* /, "", constant)
     } else if (!fn && $0 ~ /^(ghost )?use /) {
         owner[rel, FNR] = "use"; thing[rel, FNR] = rel
+    } else if (!fn && line ~ /^ *#\[/) {
+        attributes = line
     } else if (!fn && $0 ~ /^ *\/\//) {
         owner[rel, FNR] = "comment"; thing[rel, FNR] = rel
     }
@@ -123,7 +129,7 @@ kind == "code" {
 }
 
 kind == "proof" {
-    fn = rel; sub(/^proofs\//, "", fn); sub(/\/Proof\.antt$/, "", fn)
+    fn = rel; sub(/^proofs\//, "", fn); sub(/\/[A-Za-z]*\.antt$/, "", fn)
     if ($0 !~ /^use /) mention(fn, $0)
 }
 
@@ -160,7 +166,7 @@ kind == "antt" && !/^use / && !/^ *--/ && !/^ *$/ {
 # ---- the mistakes
 
 kind == "edit" && /^ *$/ { next }
-kind == "edit" && /^at: / { if (mistake) { place[mistake] = $2; decl[mistake] = $3 } ; next }
+kind == "edit" && /^# at: / { if (mistake) { place[mistake] = $3; decl[mistake] = $4 } ; next }
 kind == "edit" && /^file: / { file = substr($0, 7); next }
 kind == "edit" && /^old: / { old = substr($0, 6); next }
 kind == "edit" && /^new:/ {
@@ -171,9 +177,9 @@ kind == "edit" && /^new:/ {
     old = ""
     next
 }
-kind == "edit" && /^[a-z0-9_]+: ./ {
+kind == "edit" && /^# [a-z0-9_]+: ./ {
     mistake = ++mistake_count
-    name[mistake] = $1; sub(/:$/, "", name[mistake])
+    name[mistake] = $2; sub(/:$/, "", name[mistake])
     label_of[mistake] = label
     file = ""; old = ""
     next
@@ -248,22 +254,6 @@ function close_over(m,   c, done, t, n, i, list, f) {
     }
 }
 
-# All that function f calls, at one remove or several. Where some of it is not proved, the last declaration of f's proof, by which
-# the proof is closed, is refused for that alone: a mistake that is seen there is hidden.
-function callees(f, list,   n, done, g) {
-    split("", called); n = 0; list[++n] = f; called[f] = 1
-    for (done = 1; done <= n; done++)
-        for (g = 1; g <= function_count; g++)
-            if (!(functions[g] in called) && ((list[done], bare_of[functions[g]]) in calls)) { called[functions[g]] = 1; list[++n] = functions[g] }
-    return n
-}
-
-function hides(f,   n, i, below) {
-    n = callees(f, below)
-    for (i = 2; i <= n; i++) if (below[i] in moved) return 1
-    return 0
-}
-
 # the places that a mistake names: functions, or a law
 function places_of(m, list,   n, f, i, p) {
     n = 0; p = place[m]
@@ -288,7 +278,6 @@ END {
             count = places_of(k, there)
             for (i = 1; i <= count; i++) {
                 if (whole[m] || (there[i] in moved)) fault(label_of[m], name[m] " moves the place of " name[k] ", " there[i])
-                else if (decl[k] ~ /-spec$/ && hides(there[i])) fault(label_of[m], name[m] " hides the place of " name[k] ", " there[i])
             }
         }
         print "mistake\t" label_of[m] "\t" name[m] "\t" place[m] "\t" decl[m]
