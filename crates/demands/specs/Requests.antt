@@ -25,7 +25,7 @@ use Rattle.demands.specs.Demands.{AsStated, OneMatch, SameMarked, Translation}
 abbrev pub place : (answer : ℕ) → ℕ
 place answer = 32 * field.unit answer + field.descriptor answer
 
--- ---- P1. "ReadModifyWriteCycle as one cycle", direction 2; of every block of bytes
+-- ---- P1. "Read-modify-write as one cycle", direction 2; of every block of bytes
 
 pub record ReadModifyWriteCycle : Type 0 where
   -- "Undefined: one fault, RW 1, no write half": the answer and every byte are those of a read.
