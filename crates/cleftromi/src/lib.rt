@@ -58,6 +58,7 @@ fn operation_by(direction: u64, value: u8) -> Operation
 }
 
 // Each field at its place, and no wider than it.
+#[tactic(auto, using(registers::proofs::Numbers::flag_small))]
 fn number_of(v: Values, irq: bool) -> u64
     ensures { result ≡ number_of v irq }
 {
