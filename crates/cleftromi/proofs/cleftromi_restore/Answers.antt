@@ -15,19 +15,16 @@ returns-then-short c = rw (sym c.short.ensures ∙ c.if-short.true) record { val
 pub returns-then-refusal-ne0 : goal.returns-then-refusal-ne0
 unfolding restore_answer restore_after
 returns-then-refusal-ne0 c =
-    let tested = c in
-    let image = tested.args.image.now in
+    let image = c.args.image.now in
     let told = ap (λ (r : Restored). r.refusal) c.restore-restored.ensures ∙ restored_refusal image in
     let some : refusal image ≢ 0 = λ e. c.if-refusal-ne0.true (told ∙ e) in
-    rw (sym tested.short.ensures ∙ tested.if-short.false, ne_eqb (refusal image) 0 some) record { value = told; state_after = refl }
+    rw (sym c.short.ensures ∙ c.if-short.false, ne_eqb (refusal image) 0 some) record { value = told; state_after = refl }
 
 pub returns : goal.returns
 unfolding restore_answer restore_after
 returns c =
-    let read = c in
-    let tested = read in
-    let image = tested.args.image.now in
-    let none : refusal image ≡ 0 = sym (ap (λ (r : Restored). r.refusal) read.restore-restored.ensures ∙ restored_refusal image) ∙ c.if-refusal-ne0.false in
-    let system = ap (λ (r : Restored). r.system) read.restore-restored.ensures ∙ restored_system image none in
-    rw (sym tested.short.ensures ∙ tested.if-short.false, eq-eqb (refusal image) 0 none, ← system, ← c.granted.ensures)
+    let image = c.args.image.now in
+    let none : refusal image ≡ 0 = sym (ap (λ (r : Restored). r.refusal) c.restore-restored.ensures ∙ restored_refusal image) ∙ c.if-refusal-ne0.false in
+    let system = ap (λ (r : Restored). r.system) c.restore-restored.ensures ∙ restored_system image none in
+    rw (sym c.short.ensures ∙ c.if-short.false, eq-eqb (refusal image) 0 none, ← system, ← c.granted.ensures)
     c.finish.ensures

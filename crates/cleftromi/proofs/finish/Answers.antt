@@ -3,5 +3,4 @@ use Rattle.cleftromi.proofs.finish.Goals as goal
 
 pub returns : goal.returns
 returns c =
-    let called = c in
-    rw (← called.values.ensures) record { value = called.number_of-number.ensures; state_after = c.write.ensures }
+    rw (← c.values.ensures) record { value = c.number_of-number.ensures; state_after = c.write.ensures }

@@ -1,5 +1,4 @@
 -- `number_of` meets its contract: each field fits its bits, so that no sum wraps. Assumes nothing.
-use native.Mathlib.Omega.{arith}
 use Rattle.registers.proofs.Numbers.{flag_byte}
 use Rattle.cleftromi.specs.Fields.{number_of}
 use Rattle.cleftromi.proofs.number_of.Goals as goal

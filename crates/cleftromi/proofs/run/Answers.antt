@@ -11,30 +11,26 @@ returns-then-short c = rw (sym c.short.ensures ∙ c.if-short.true) record { val
 
 pub returns-then-values-ne0 : goal.returns-then-values-ne0
 returns-then-values-ne0 c =
-    let called = c in
-    let tested = called in
-    let long = sym tested.short.ensures ∙ tested.if-short.false in
+    let long = sym c.short.ensures ∙ c.if-short.false in
     rw (
       long_answer _ _ long,
       long_after _ _ long,
-      ← called.read.ensures,
-      ← called.perform-outcome.ensures,
-      ← called.values-values.ensures,
+      ← c.read.ensures,
+      ← c.perform-outcome.ensures,
+      ← c.values-values.ensures,
       ne_eqb _ _ c.if-values-ne0.true,
     )
-    record { value = called.number_of-number.ensures; state_after = refl }
+    record { value = c.number_of-number.ensures; state_after = refl }
 
 pub returns : goal.returns
 returns c =
-    let called = c in
-    let tested = called in
-    let long = sym tested.short.ensures ∙ tested.if-short.false in
+    let long = sym c.short.ensures ∙ c.if-short.false in
     rw (
       long_answer _ _ long,
       long_after _ _ long,
-      ← called.read.ensures,
-      ← called.perform-outcome.ensures,
-      ← called.values-values.ensures,
+      ← c.read.ensures,
+      ← c.perform-outcome.ensures,
+      ← c.values-values.ensures,
       eq-eqb _ _ c.if-values-ne0.false,
     )
-    record { value = called.number_of-number.ensures; state_after = c.write.ensures }
+    record { value = c.number_of-number.ensures; state_after = c.write.ensures }

@@ -5,10 +5,9 @@ use Rattle.block.proofs.read.descriptor_of.Goals as goal
 pub returns : goal.returns
 unfolding descriptor_of
 returns c =
-    let words = c in
     rw (
-      words.join.ensures,
-      words.join-2.ensures,
-      words.join-3.ensures,
+      c.join.ensures,
+      c.join-2.ensures,
+      c.join-3.ensures,
       c.clean.ensures,
     )

@@ -11,14 +11,12 @@ returns-then-b-lt-SIZE c = rw (lt-ltb _ _ c.if-b-lt-SIZE.true) c.nothing.ensures
 pub returns : goal.returns
 unfolding read system_of shared_of
 returns c =
-    let units = c in
-    let present = units in
     rw (
-      le-ltb _ _ present.if-b-lt-SIZE.false,
+      le-ltb _ _ c.if-b-lt-SIZE.false,
       c.descriptors_of.ensures,
-      units.units_of.ensures,
-      present.present-n.ensures,
-      present.shared_of-shared.ensures,
+      c.units_of.ensures,
+      c.present-n.ensures,
+      c.shared_of-shared.ensures,
     )
 
 pub units_of-requires : goal.units_of-requires

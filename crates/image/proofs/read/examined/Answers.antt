@@ -20,17 +20,15 @@ loop-m-init c = (omega arith, refl)
 pub returns-then-refusal-ne0 : goal.returns-then-refusal-ne0
 returns-then-refusal-ne0 c =
     let at = c.loop-m in
-    let start = c in
-    let image = start.args.image.now in
-    let refused = as_of image start.args.n at.m _ (omega arith) c.block_refusal-refusal.ensures in
+    let image = c.args.image.now in
+    let refused = as_of image c.args.n at.m _ (omega arith) c.block_refusal-refusal.ensures in
     refused ∙ stopped (refusals_at image) (proper image) _ at.m (omega arith) at.invariant.1 (λ e. c.if-refusal-ne0.true (refused ∙ e))
 
 pub loop-m-preserved : goal.loop-m-preserved
 loop-m-preserved c =
     let at = c.loop-m in
-    let start = c in
-    let image = start.args.image.now in
-    let refused = as_of image start.args.n at.m _ (omega arith) c.block_refusal-refusal.ensures in
+    let image = c.args.image.now in
+    let refused = as_of image c.args.n at.m _ (omega arith) c.block_refusal-refusal.ensures in
     (omega arith, one_more (refusals_at image) (proper image) at.m at.invariant.1 (sym refused ∙ c.if-refusal-ne0.false))
 
 pub returns : goal.returns

@@ -43,19 +43,17 @@ across-requires c =
 pub returns-then-across : goal.returns-then-across
 unfolding restored across
 returns-then-across c =
-    let read = c in
-    let image = read.args.image.now in
-    let fit : misfit (length image) ≡ false = rw (← read.miscounted.ensures) read.if-image-miscounted.false in
-    let none = sym read.examined-refusal.ensures ∙ read.if-refusal-ne0.false in
-    let all : across image ≡ true = rw (← read.system_of-system.ensures, ← c.across.ensures) c.if-across.true in
-    rw (refusal_across image fit none, all, read.system_of-system.ensures) refl
+    let image = c.args.image.now in
+    let fit : misfit (length image) ≡ false = rw (← c.miscounted.ensures) c.if-image-miscounted.false in
+    let none = sym c.examined-refusal.ensures ∙ c.if-refusal-ne0.false in
+    let all : across image ≡ true = rw (← c.system_of-system.ensures, ← c.across.ensures) c.if-across.true in
+    rw (refusal_across image fit none, all, c.system_of-system.ensures) refl
 
 pub returns : goal.returns
 unfolding restored across
 returns c =
-    let read = c in
-    let image = read.args.image.now in
-    let fit : misfit (length image) ≡ false = rw (← read.miscounted.ensures) read.if-image-miscounted.false in
-    let none = sym read.examined-refusal.ensures ∙ read.if-refusal-ne0.false in
-    let broken : across image ≡ false = rw (← read.system_of-system.ensures, ← c.across.ensures) c.if-across.false in
+    let image = c.args.image.now in
+    let fit : misfit (length image) ≡ false = rw (← c.miscounted.ensures) c.if-image-miscounted.false in
+    let none = sym c.examined-refusal.ensures ∙ c.if-refusal-ne0.false in
+    let broken : across image ≡ false = rw (← c.system_of-system.ensures, ← c.across.ensures) c.if-across.false in
     c.refused-2.ensures ∙ rw (refusal_across image fit none, broken) refl

@@ -21,5 +21,4 @@ loop-i-preserved c =
 
 pub returns : goal.returns
 unfolding apart
-returns c =
-    rw (← c.present-i-end.ensures) (ended c.loop-i.invariant.1 c.loop-i-test.false)
+returns c = rw (← c.present-i-end.ensures) (ended c.loop-i.invariant.1 c.loop-i-test.false)

@@ -13,14 +13,12 @@ pub returns-then-a-i : goal.returns-then-a-i
 unfolding same_marked
 returns-then-a-i c =
     let at = c.loop-i in
-    let start = c in
-    failed at.invariant (omega arith) (rule_test (get_or start.args.u.accumulator at.i (local 0)) (get_or start.args.v.accumulator at.i (local 0)) ∙ ap not c.if-a-i.true)
+    failed at.invariant (omega arith) (rule_test (get_or c.args.u.accumulator at.i (local 0)) (get_or c.args.v.accumulator at.i (local 0)) ∙ ap not c.if-a-i.true)
 
 pub loop-i-preserved : goal.loop-i-preserved
 loop-i-preserved c =
     let at = c.loop-i in
-    let start = c in
-    next at.invariant (omega arith) (rule_test (get_or start.args.u.accumulator at.i (local 0)) (get_or start.args.v.accumulator at.i (local 0)) ∙ ap not c.if-a-i.false)
+    next at.invariant (omega arith) (rule_test (get_or c.args.u.accumulator at.i (local 0)) (get_or c.args.v.accumulator at.i (local 0)) ∙ ap not c.if-a-i.false)
 
 pub returns : goal.returns
 unfolding same_marked

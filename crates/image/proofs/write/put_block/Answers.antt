@@ -10,10 +10,9 @@ pub returns : goal.returns
 unfolding block
 returns c =
     let put = c.put_fields in
-    let start = c in
-    let e = start.args.b.now in
+    let e = c.args.b.now in
     let b = put.new.b in
-    let f : List ℕ = fields start.args.system start.args.m in
+    let f : List ℕ = fields c.args.system c.args.m in
     let size : length f ≡ 510 = omega (arith, simp (length-append, length-drop) at (ap length put.ensures), put.auto.b) in
     let sum : c.sum.result ≡ words 255 f % 2 ^ 16 =
     c.sum.ensures ∙ rw (put.ensures, words_front 255 f (drop 510 e) (omega arith)) in

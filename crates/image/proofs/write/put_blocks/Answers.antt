@@ -16,9 +16,8 @@ loop-m-preserved c =
 
 pub returns : goal.returns
 returns c =
-    let start = c in
     ended 512 _ _ _ _ _ c.loop-m.invariant c.loop-m-test.false
-    ∙ rw (drop_of_length-le start.args.image.now {i = 512 * start.args.n} (omega arith), append-nil)
+    ∙ rw (drop_of_length-le c.args.image.now {i = 512 * c.args.n} (omega arith), append-nil)
 
 pub loop-m-init : goal.loop-m-init
 loop-m-init c = begun 512 _ _ _

@@ -12,14 +12,9 @@ use Rattle.image.proofs.write.put_fields.Goals as goal
 pub returns : goal.returns
 unfolding fields
 returns c =
-    let zeros = c in
-    let descriptors = zeros in
-    let registers = descriptors in
-    let head = registers in
-    let start = head in
-    let e = start.args.b.now in
-    let s = start.args.system in
-    let m = start.args.m in
+    let e = c.args.b.now in
+    let s = c.args.system in
+    let m = c.args.m in
     let h = s.shared in
     let u = unit s m in
     let p₁ : List ℕ = m ∷ h.board.count % 256 ∷ h.table in
@@ -27,12 +22,12 @@ returns c =
     let p₂ : List ℕ = list_of 9 (ac u) ++ high_first (marks u) ++ rest in
     let p₃ : List ℕ = pieces 32 (λ n. bytes (descriptor s (32 * m + n))) in
     let size : length p₁ ≡ 18 =
-    omega (arith, simp (length-append, length-drop) at (ap length head.put_head.ensures), head.put_head.auto.b) in
-    let h₁ : Front p₁ 18 e head.put_head.new.b = (size, head.put_head.ensures) in
-    let h₂ = further p₁ p₂ e _ registers.put_unit.new.b 18 16 34 h₁ refl refl registers.put_unit.ensures in
+    omega (arith, simp (length-append, length-drop) at (ap length c.put_head.ensures), c.put_head.auto.b) in
+    let h₁ : Front p₁ 18 e c.put_head.new.b = (size, c.put_head.ensures) in
+    let h₂ = further p₁ p₂ e _ c.put_unit.new.b 18 16 34 h₁ refl refl c.put_unit.ensures in
     let h₃ =
-    further (p₁ ++ p₂) p₃ e _ descriptors.put_descriptors.new.b 34 288 322 h₂ (length_pieces 9 _ (λ n. refl) 32) refl
-    descriptors.put_descriptors.ensures in
-    let h₄ = further_zeros (p₁ ++ p₂ ++ p₃) e _ zeros.put_zeros.new.b 322 188 510 h₃ (omega arith) refl zeros.put_zeros.ensures in
+    further (p₁ ++ p₂) p₃ e _ c.put_descriptors.new.b 34 288 322 h₂ (length_pieces 9 _ (λ n. refl) 32) refl
+    c.put_descriptors.ensures in
+    let h₄ = further_zeros (p₁ ++ p₂ ++ p₃) e _ c.put_zeros.new.b 322 188 510 h₃ (omega arith) refl c.put_zeros.ensures in
     let one : p₁ ++ p₂ ≡ p₁ ++ list_of 9 (ac u) ++ high_first (marks u) ++ rest = simp append_assoc in
     h₄.1 ∙ ap (λ (l : List ℕ). l ++ p₃ ++ replicate 188 0 ++ drop 510 e) one

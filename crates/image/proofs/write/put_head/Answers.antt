@@ -5,10 +5,9 @@ use Rattle.image.proofs.write.put_head.Goals as goal
 
 pub returns : goal.returns
 returns c =
-    let start = c in
-    let h = start.args.shared in
-    let e = start.args.b.now in
-    let two : List ℕ = start.args.m ∷ h.board.count % 256 ∷ [] in
+    let h = c.args.shared in
+    let e = c.args.b.now in
+    let two : List ℕ = c.args.m ∷ h.board.count % 256 ∷ [] in
     let size : length h.table ≡ 16 = search rules in
     (replaced two h.table e _ c.copy_from_slice.new.self 2 16 18
     (further_stores [] two e e 0 2 (refl, refl) refl (omega arith)) size refl c.copy_from_slice.ensures.after).1

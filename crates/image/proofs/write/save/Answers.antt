@@ -21,22 +21,18 @@ returns-then-image-n c =
 pub returns-then-not-sound : goal.returns-then-not-sound
 unfolding saved
 returns-then-not-sound c =
-    let sized = c in
-    let count = sym sized.miscounted.ensures ∙ sized.if-miscounted.false in
-    let size = eq-eqb _ _ sized.if-image-n.false in
+    let count = sym c.miscounted.ensures ∙ c.if-miscounted.false in
+    let size = eq-eqb _ _ c.if-image-n.false in
     let bad = sym c.sound.ensures ∙ c.if-not-sound.true in
     record { value = rw (count, size, bad); image_after = rw (count, size, bad) }
 
 pub returns : goal.returns
 unfolding saved form
 returns c =
-    let put = c in
-    let tested = put in
-    let sized = tested in
-    let count = sym sized.miscounted.ensures ∙ sized.if-miscounted.false in
-    let size = eq-eqb _ _ sized.if-image-n.false in
-    let good = sym tested.sound.ensures ∙ tested.if-not-sound.false in
-    record { value = rw (count, size, good); image_after = rw (count, size, good, min-eq_left (well_counted _ count)) put.put_blocks.ensures }
+    let count = sym c.miscounted.ensures ∙ c.if-miscounted.false in
+    let size = eq-eqb _ _ c.if-image-n.false in
+    let good = sym c.sound.ensures ∙ c.if-not-sound.false in
+    record { value = rw (count, size, good); image_after = rw (count, size, good, min-eq_left (well_counted _ count)) c.put_blocks.ensures }
 
 pub put_blocks-requires : goal.put_blocks-requires
 put_blocks-requires c = (well_counted _ (sym c.miscounted.ensures ∙ c.if-miscounted.false), c.if-image-n.false)

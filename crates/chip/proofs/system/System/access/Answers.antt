@@ -23,17 +23,15 @@ returns-then-address-gt16777215 c =
     c.refused-then-address-gt16777215.ensures
 
 pub translate_at-requires : goal.translate_at-requires
-translate_at-requires c i e =
-    searched_located _ _ _ i (sym c.search-search.ensures ∙ e)
+translate_at-requires c i e = searched_located _ _ _ i (sym c.search-search.ensures ∙ e)
 
 pub returns : goal.returns
 unfolding translate
 returns c =
-    let tested = c in
     rw (
-      sym tested.miscounted.ensures ∙ tested.if-miscounted.false,
-      le-ltb _ _ tested.if-function_code-gt15.false,
-      le-ltb _ _ tested.if-address-gt16777215.false,
+      sym c.miscounted.ensures ∙ c.if-miscounted.false,
+      le-ltb _ _ c.if-function_code-gt15.false,
+      le-ltb _ _ c.if-address-gt16777215.false,
       ← c.entry-number.ensures,
       ← c.search-search.ensures,
     )

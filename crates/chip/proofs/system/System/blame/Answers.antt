@@ -19,8 +19,7 @@ loop-k-preserved c =
     (c.blame.ensures ∙ ap (λ (f : Found). blame f (unit at.self at.k)) found)
 
 pub returns : goal.returns
-returns c =
-    ended _ _ _ _ _ c.loop-k.invariant c.loop-k-test.false c.present-n.ensures
+returns c = ended _ _ _ _ _ c.loop-k.invariant c.loop-k-test.false c.present-n.ensures
 
 pub loop-k-init : goal.loop-k-init
 loop-k-init c = begun _ _ _ c.present-n.ensures

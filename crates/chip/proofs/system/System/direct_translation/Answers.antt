@@ -11,25 +11,23 @@ translated_at-requires c =
 pub returns-in-Match : goal.returns-in-Match
 unfolding direct_translation
 returns-in-Match c =
-    let matched = c in
     rw (
-      ← matched.prepare-t.ensures,
-      ← matched.unit-unit.ensures,
-      ← matched.page-page.ensures,
-      ← matched.ac.ensures,
-      sym matched.search.ensures ∙ c.in-Match.is,
+      ← c.prepare-t.ensures,
+      ← c.unit-unit.ensures,
+      ← c.page-page.ensures,
+      ← c.ac.ensures,
+      sym c.search.ensures ∙ c.in-Match.is,
     )
     c.translated_at.ensures
 
 pub returns-in-NoMatch : goal.returns-in-NoMatch
 unfolding direct_translation result_at
 returns-in-NoMatch c =
-    let matched = c in
     rw (
-      ← matched.prepare-t.ensures,
-      ← matched.unit-unit.ensures,
-      ← matched.page-page.ensures,
-      ← matched.ac.ensures,
-      sym matched.search.ensures ∙ c.in-NoMatch.is,
+      ← c.prepare-t.ensures,
+      ← c.unit-unit.ensures,
+      ← c.page-page.ensures,
+      ← c.ac.ensures,
+      sym c.search.ensures ∙ c.in-NoMatch.is,
       c.in_all-system.ensures,
     )

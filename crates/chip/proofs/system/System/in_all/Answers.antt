@@ -10,8 +10,7 @@ loop-m-preserved c =
     next _ at.self _ at.m _ c.change.result at.invariant c.loop-m-test.true c.change.ensures
 
 pub returns : goal.returns
-returns c =
-    ended _ _ _ _ _ c.loop-m.invariant c.loop-m-test.false c.present-n.ensures
+returns c = ended _ _ _ _ _ c.loop-m.invariant c.loop-m-test.false c.present-n.ensures
 
 pub loop-m-init : goal.loop-m-init
 loop-m-init c = begun _ _ _ c.present-n.ensures

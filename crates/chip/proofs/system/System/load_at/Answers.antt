@@ -5,12 +5,11 @@ use Rattle.chip.proofs.system.System.load_at.Goals as goal
 pub returns-then-collision : goal.returns-then-collision
 unfolding load_at
 returns-then-collision c =
-    let t = c in
     rw (
-      ← t.descriptor-old.ensures,
-      ← t.disabled.ensures,
-      ← t.with_ssr.ensures,
-      ← t.with_descriptor-t.ensures,
+      ← c.descriptor-old.ensures,
+      ← c.disabled.ensures,
+      ← c.with_ssr.ensures,
+      ← c.with_descriptor-t.ensures,
       ← c.collision.ensures,
       c.if-collision.true,
       c.blame-system.ensures,
@@ -19,12 +18,11 @@ returns-then-collision c =
 pub returns : goal.returns
 unfolding load_at
 returns c =
-    let t = c in
     rw (
-      ← t.descriptor-old.ensures,
-      ← t.disabled.ensures,
-      ← t.with_ssr.ensures,
-      ← t.with_descriptor-t.ensures,
+      ← c.descriptor-old.ensures,
+      ← c.disabled.ensures,
+      ← c.with_ssr.ensures,
+      ← c.with_descriptor-t.ensures,
       ← c.collision.ensures,
       c.if-collision.false,
       c.in_all-system.ensures,

@@ -8,10 +8,9 @@ use Rattle.chip.proofs.system.System.match_at.Goals.{then-writes-win, else-write
 pub returns : goal.returns
 unfolding match_at with_descriptor
 returns c =
-    let writes = c in
-    let win = writes.protected-win.ensures in
+    let win = c.protected-win.ensures in
     c.granted.ensures
     ∙ elim c.if-writes-win.branch [
-      | then-writes-win w ↦ rw (w.self-is, w.answer-is, ← win, ← writes.writes.ensures, w.if-writes-win.true, w.violation-self.ensures, w.read_half.ensures)
-      | else-writes-win w ↦ rw (w.self-is, w.answer-is, w.with_ssr.ensures, w.touched.ensures, ← win, ← writes.writes.ensures, w.if-writes-win.false, w.physical.ensures, w.physical_page.ensures)
+      | then-writes-win w ↦ rw (w.self-is, w.answer-is, ← win, ← c.writes.ensures, w.if-writes-win.true, w.violation-self.ensures, w.read_half.ensures)
+      | else-writes-win w ↦ rw (w.self-is, w.answer-is, w.with_ssr.ensures, w.touched.ensures, ← win, ← c.writes.ensures, w.if-writes-win.false, w.physical.ensures, w.physical_page.ensures)
     ]

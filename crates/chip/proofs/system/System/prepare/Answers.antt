@@ -10,9 +10,8 @@ returns-then-not-inconsistent c = rw (sym c.inconsistent.ensures ∙ c.if-not-in
 pub returns-in-Translation : goal.returns-in-Translation
 unfolding prepare
 returns-in-Translation c =
-    let tested = c in
     rw (
-      sym tested.inconsistent.ensures ∙ tested.if-not-inconsistent.false,
+      sym c.inconsistent.ensures ∙ c.if-not-inconsistent.false,
       c.in-Translation.is,
       c.send-in-Translation-2.ensures,
       c.send-in-Translation.ensures,
@@ -22,9 +21,8 @@ returns-in-Translation c =
 pub returns-in-Load : goal.returns-in-Load
 unfolding prepare
 returns-in-Load c =
-    let tested = c in
     rw (
-      sym tested.inconsistent.ensures ∙ tested.if-not-inconsistent.false,
+      sym c.inconsistent.ensures ∙ c.if-not-inconsistent.false,
       c.in-Load.is,
       c.send-in-Load-6.ensures,
       c.send-in-Load-5.ensures,

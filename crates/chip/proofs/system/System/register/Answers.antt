@@ -24,8 +24,7 @@ returns-then-address-gt63 c =
 
 pub operate-requires : goal.operate-requires
 operate-requires c =
-    let tested = c in
-    omega (arith, well_counted tested.args.self.shared.board.count (sym tested.miscounted.ensures ∙ tested.if-miscounted.false))
+    omega (arith, well_counted c.args.self.shared.board.count (sym c.miscounted.ensures ∙ c.if-miscounted.false))
 
 pub returns : goal.returns
 returns c =

@@ -28,12 +28,11 @@ loop-i-init c = (omega arith, record { none = λ k a b. absurd (omega arith); lo
 pub returns-in-Yes : goal.returns-in-Yes
 unfolding searched
 returns-in-Yes c =
-    let answered = c in
-    let at = answered.loop-i in
-    let a = answered.args in
-    let found = matched a.page a.number a.self at.i (sym answered.match_answer.ensures ∙ c.in-Yes.is) in
+    let at = c.loop-i in
+    let a = c.args in
+    let found = matched a.page a.number a.self at.i (sym c.match_answer.ensures ∙ c.in-Yes.is) in
     let e : matching a.page a.number a.self ≡ At at.i =
-    first_at _ 0 _ at.i (omega arith) (omega (arith, answered.present-i-end.ensures)) at.invariant.1.none found in
+    first_at _ 0 _ at.i (omega arith) (omega (arith, c.present-i-end.ensures)) at.invariant.1.none found in
     rw e refl
 
 pub loop-i-preserved : goal.loop-i-preserved

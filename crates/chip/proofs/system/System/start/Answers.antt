@@ -11,20 +11,17 @@ returns-then-miscounted c = rw (sym c.miscounted.ensures ∙ c.if-miscounted.tru
 
 pub overflow_mul-i : goal.overflow_mul-i
 overflow_mul-i c =
-    let tested = c in
-    omega (arith, well_counted tested.args.count (sym tested.miscounted.ensures ∙ tested.if-miscounted.false))
+    omega (arith, well_counted c.args.count (sym c.miscounted.ensures ∙ c.if-miscounted.false))
 
 pub with_descriptor-requires : goal.with_descriptor-requires
 with_descriptor-requires c =
-    let tested = c in
-    omega (arith, well_counted tested.args.count (sym tested.miscounted.ensures ∙ tested.if-miscounted.false))
+    omega (arith, well_counted c.args.count (sym c.miscounted.ensures ∙ c.if-miscounted.false))
 
 pub returns-in-Nobody : goal.returns-in-Nobody
 unfolding fresh
 returns-in-Nobody c =
-    let tested = c in
     rw (
-      sym tested.miscounted.ensures ∙ tested.if-miscounted.false,
+      sym c.miscounted.ensures ∙ c.if-miscounted.false,
       c.in-Nobody.is,
       c.granted.ensures,
       c.unselected.ensures,
@@ -33,9 +30,8 @@ returns-in-Nobody c =
 pub returns-then-m-count : goal.returns-then-m-count
 unfolding fresh
 returns-then-m-count c =
-    let tested = c in
     rw (
-      sym tested.miscounted.ensures ∙ tested.if-miscounted.false,
+      sym c.miscounted.ensures ∙ c.if-miscounted.false,
       c.in-Unit.is,
       lt-ltb _ _ c.if-m-count.true,
       c.granted-then-m-count.ensures,
@@ -47,9 +43,8 @@ returns-then-m-count c =
 pub returns-else-m-count : goal.returns-else-m-count
 unfolding fresh
 returns-else-m-count c =
-    let tested = c in
     rw (
-      sym tested.miscounted.ensures ∙ tested.if-miscounted.false,
+      sym c.miscounted.ensures ∙ c.if-miscounted.false,
       c.in-Unit.is,
       le-ltb _ _ c.if-m-count.false,
     )

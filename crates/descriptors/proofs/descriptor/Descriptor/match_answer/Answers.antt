@@ -18,15 +18,13 @@ by d page number e e' r r' s s' = rw (sym e ∙ e', sym r ∙ r', sym s ∙ s')
 range-alike : (c : After-space_match) {s : Bool} → c.space_match.result ≡ s → let a = c.args in
     compared true s ≡ match_answer a.self a.page a.number
 range-alike c =
-    let at = c in
-    by _ _ _ at.enabled.ensures at.if-enabled.true at.range_match.ensures c.if-range_match.true
+    by _ _ _ c.enabled.ensures c.if-enabled.true c.range_match.ensures c.if-range_match.true
     c.space_match.ensures
 
 range-apart : (c : After-space_match-else-range_match) {s : Bool} → c.space_match-else-range_match.result ≡ s → let a = c.args in
     compared false s ≡ match_answer a.self a.page a.number
 range-apart c =
-    let at = c in
-    by _ _ _ at.enabled.ensures at.if-enabled.true at.range_match.ensures c.if-range_match.false
+    by _ _ _ c.enabled.ensures c.if-enabled.true c.range_match.ensures c.if-range_match.false
     c.space_match-else-range_match.ensures
 
 pub returns-then-space_match : goal.returns-then-space_match
