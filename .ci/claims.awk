@@ -1,5 +1,8 @@
 # The public functions of sources in the layout of 'rt fmt', for .ci/claims, which says what is printed of each. Every file is
-# read twice: for the types that it declares, then for its functions.
+# read twice: for the types and traits that it declares, then for its functions. The methods of an 'impl TRAIT for TYPE' are public;
+# what they promise is in the trait, or in the 'impl' as 'ghost .._gives = { λ .. r. r ≡ DEFINITION }'.
+
+function capital(name) { return toupper(substr(name, 1, 1)) substr(name, 2) }
 
 function fault(why) { faults = faults (faults ? "; " : "") why }
 
@@ -56,6 +59,20 @@ function proof(signature,   params, param, i, lent, lasts) {
     return "(" (signature ~ /->/ ? "same " parts("") : "refl") ", " lasts ")"
 }
 
+# What a promise is stated over where a function has a type parameter 'T: BOUND', of a bound that is copied: the type, its laws and
+# that it is copied; and for the bound and each trait above it the ghost members and the table of functions. So a claim holds for
+# every type and every 'impl'. Of these the kinds of the parameters take the first three.
+function generics(head,   bound) {
+    if (!match(head, /fn [A-Za-z0-9_]+<[A-Z][A-Za-z]*: [A-Za-z]+>/)) {
+        if (head ~ /fn [A-Za-z0-9_]+<[A-Z]/) fault("its type parameters are not one with one bound")
+        return 0
+    }
+    bound = substr(head, RSTART, RLENGTH)
+    gsub(/.*: |>/, "", bound)
+    if (!((crate, bound) in above)) fault("its bound, " bound ", is no trait of its crate")
+    return 3 + 2 * (1 + above[crate, bound])
+}
+
 # TypeName of a method; module_name, and crate_name of a function that has its module's name; with the crate where that is taken.
 function claim(path, name,   of, text, words, n, i) {
     of = path
@@ -75,19 +92,21 @@ function claim(path, name,   of, text, words, n, i) {
 }
 
 function report(head,   says, n, name, path, called, text) {
-    faults = head ~ / requires / ? "it has a 'requires', and a public function may not" : ""
     gsub(/ +/, " ", head)
+    match(head, /fn [A-Za-z0-9_]+/)
+    name = substr(head, RSTART + 3, RLENGTH - 3)
+    if (trait) head = head ((crate, trait, name) in promised ? promised[crate, trait, name] : gives)
+    faults = head ~ / requires / ? "it has a 'requires', and a public function may not" : ""
     gsub(/«|»/, "", head)
     n = split(head, says, / ensures ([a-z0-9_]+ )?\{ /) - 1
     promise(says, n)
-    match(head, /fn [A-Za-z0-9_]+/)
-    name = substr(head, RSTART + 3, RLENGTH - 3)
     path = type ? home[crate, type] type "." : module
     called = (type ? type "." : module) name
     gsub(/\./, "::", called)
     text = proof(says[1])
+    taking = generics(head)
     print crate "\t" called "\tRattle." crate ".proofs." path name "\t" claim(path, name) \
-        "\t" (head ~ / extern "C" fn / ? "C" : "Rattle") "\t" text "\t" (faults ? faults : "-") "\t" definitions
+        "\t" (head ~ / extern "C" fn / ? "C" : trait ? "trait" : "Rattle") "\t" text "\t" (faults ? faults : "-") "\t" definitions "\t" taking
 }
 
 FNR == 1 {
@@ -99,20 +118,46 @@ FNR == 1 {
     sub(/\.rt$/, "", module)
     gsub(/\//, ".", module)
     module = module == "lib" || module == "main" ? "" : module "."
-    type = ""
+    type = trait = declared = ""
 }
 { sub(/ *\/\/.*/, "") }
+/^}/ { type = trait = declared = gives = "" }
 pass == 1 {
     if (match($0, /^(pub[^ ]* )?(struct|enum) [A-Za-z0-9_]+/)) {
         split(substr($0, RSTART, RLENGTH), words, /(struct|enum) /)
         home[crate, words[2]] = module
     }
+    if (match($0, /^pub trait [A-Za-z0-9_]+/)) {
+        declared = substr($0, RSTART + 10, RLENGTH - 10)
+        traits = $0
+        sub(/[^:]*/, "", traits)
+        above[crate, declared] = traits ~ /^:/ ? 1 + gsub(/ \+ /, "", traits) : 0
+    }
+    if (declared && /^ *fn /) { method = $2; sub(/[(<].*/, "", method) }
+    if (declared && /^ *ensures .*;$/) { sub(/^ */, " "); sub(/;$/, " "); promised[crate, declared, method] = promised[crate, declared, method] $0 }
     next
 }
-/^}/ { type = "" }
-/^impl[ <]/ { type = $2; sub(/<.*/, "", type) }
+/^impl[ <]/ {
+    trait = / for / ? $2 : ""
+    type = trait ? $4 : $2
+    sub(/<.*/, "", type)
+    if (trait) {
+        with = trait ~ /</ ? trait : ""
+        sub(/^[^<]*</, "", with)
+        sub(/>.*/, "", with)
+        sub(/<.*/, "", trait)
+        sub(/.*::/, "", trait)
+        type = capital(type) trait capital(with)
+        home[crate, type] = module
+    }
+}
+trait && match($0, / r\. r ≡ /) {
+    gives = substr($0, RSTART + RLENGTH)
+    sub(/ *};$/, "", gives)
+    gives = " ensures { result ≡ " gives " } "
+}
 # from the line of the name to the one where the body begins
-/^ *pub ([a-z]+ |"C" )*fn / { head = " " }
+/^ *pub ([a-z]+ |"C" )*fn / || trait && /^ *fn / { head = " " }
 head != "" { head = head " " $0 }
 head != "" && /\{}?$/ && !/^ *(requires|ensures) / {
     report(head)

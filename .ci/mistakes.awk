@@ -12,7 +12,8 @@
 # functions whose contract, attributes or proof do, and those that call one whose contract does. Names are compared without their
 # module, and names bound in a term count, too, so more counts as moved than is.
 #
-# A function's proof is proofs/F/Proof.antt, or Invariants.antt and Answers.antt there, or is found by search, without a file.
+# A function's proof is proofs/F/Proof.antt, or Invariants.antt and Answers.antt there, or is found by search, without a file. F of
+# a method of 'impl TRAIT<WITH> for TYPE' is TYPETRAITWITH/METHOD. Its contract is the trait's, and moves with it.
 #
 # Printed, with tabs: 'mistake' LABEL NAME PLACE DECLARATION, 'moves' LABEL WHAT, and 'fault' LABEL WHY. WHAT is a function by the
 # folder of its proof, FILE#DECLARATION, or * for all there is.
@@ -23,6 +24,8 @@ function path_of(file) { # src/a/b.rt is the module a/b; lib.rt and main.rt are 
     sub(/^src\//, "", file); sub(/\.rt$/, "", file)
     return file == "lib" || file == "main" ? "" : file "/"
 }
+
+function capital(name) { return toupper(substr(name, 1, 1)) substr(name, 2) }
 
 function fault(label, why) { print "fault\t" label "\t" why }
 
@@ -63,7 +66,7 @@ function open_item(name) {
 FNR == 1 {
     rel = relative(FILENAME)
     kind = rel ~ /^must-fail\// ? "edit" : rel ~ /\.rt$/ ? "code" : rel ~ /^proofs\/.*\/(Answers|Invariants|Proof)\.antt$/ ? "proof" : "antt"
-    type = ""; fn = ""; part = ""; constant = ""; item = ""; base = 0; sections = 0; data = 0
+    type = ""; trait = ""; fn = ""; part = ""; constant = ""; item = ""; base = 0; sections = 0; data = 0
     label = rel; sub(/^must-fail\//, "", label); sub(/\.edit$/, "", label)
     mistake = 0; file = ""; old = ""; attributes = ""
 }
@@ -88,13 +91,25 @@ kind != "edit" { text[rel, FNR] = $0; last[rel] = FNR }
 
 kind == "code" {
     line = $0; sub(/\/\/.*/, "", line); sub(/ +$/, "", line)
-    if (line ~ /^}/) type = ""
-    if (line ~ /^impl[ <]/) { type = $2; sub(/<.*/, "", type) }
+    if (line ~ /^}/) type = trait = ""
+    if (line ~ /^(pub )?trait /) { type = $0; sub(/^(pub )?trait /, "", type); sub(/[^A-Za-z0-9_].*/, "", type); home[type] = path_of(rel) }
+    if (line ~ /^impl[ <]/) {
+        trait = line ~ / for / ? $2 : ""
+        type = trait ? $4 : $2
+        sub(/<.*/, "", type)
+        if (trait) {
+            with = trait ~ /</ ? trait : ""
+            sub(/^[^<]*</, "", with); sub(/>.*/, "", with)
+            sub(/<.*/, "", trait); sub(/.*::/, "", trait)
+            type = capital(type) trait capital(with); home[type] = path_of(rel)
+        }
+    }
     if (line ~ /^ *(pub(\([a-z]+\))? )?(extern "C" )?fn /) {
         match(line, /fn [A-Za-z0-9_]+/)
         bare = substr(line, RSTART + 3, RLENGTH - 3)
         fn = (type ? home[type] type "/" : path_of(rel)) bare
         bare_of[fn] = bare; file_of[fn] = rel; functions[++function_count] = fn
+        if (trait) impls[home[trait] trait "/" bare] = impls[home[trait] trait "/" bare] " " fn
         mention(fn, attributes); attributes = ""
         match(line, /^ */); indent = RLENGTH
         part = "contract"
@@ -122,7 +137,7 @@ kind == "code" {
         if (part == "body") calls_of(fn, line)
         line = $0; sub(/\/\/.*/, "", line); sub(/ +$/, "", line)
         match(line, /^ */)
-        if (part == "contract" && line ~ /\{}$/ && line !~ /^ *(requires|ensures) /) fn = ""
+        if (part == "contract" && (line ~ /;$/ || line ~ /\{}$/ && line !~ /^ *(requires|ensures) /)) fn = ""
         else if (part == "contract" && line ~ /\{$/ && line !~ /^ *(requires|ensures) /) part = "body"
         else if (part == "body" && RLENGTH == indent && line ~ /^ *}$/) { fn = ""; part = "" }
     }
@@ -203,10 +218,12 @@ function move_users(item, name,   one, n, i) {
 }
 
 # a function whose contract says something else: its proof, and those of its callers
-function move_contract(f) {
+function move_contract(f,   one, n, i) {
     if (f in contract_moved) return
     contract_moved[f] = 1
     move(f); move_all(callers[bare_of[f]])
+    n = split(impls[f], one, " ")
+    for (i = 1; i <= n; i++) move_contract(one[i])
 }
 
 # a constant: the functions whose bodies name it, and the constants made of it

@@ -18,7 +18,7 @@ pub const SIZE: usize = 4096;
 pub(crate) fn present(count: usize) -> usize
     ensures { result ≡ min count 6 }
 {
-    if count < 6 { count } else { 6 }
+    count.min(6)
 }
 
 fn unit_of(b: &[u8]) -> Unit
@@ -35,16 +35,14 @@ fn unit_of(b: &[u8]) -> Unit
     }
 }
 
-// The first n units, and no others.
+// The first n units, and no others. A loop, as is the next: `array::from_fn` doubles what a bus access costs.
 fn units_of(b: &[u8], n: usize) -> [Unit; 6]
     requires { (n ≤ 6) × (128 ≤ length b.now) }
     ensures { result ≡ each n (λ m u. unit_of (drop (unit_place m) b.now)) nothing.units }
 {
-    let nothing = System::nothing();
-    let mut units = nothing.units;
-    for m in 0..n {
-        let at = 32 + 16 * m;
-        units[m] = unit_of(&b[at..]);
+    let mut units = System::nothing().units;
+    for (m, unit) in units[..n].iter_mut().enumerate() {
+        *unit = unit_of(&b[32 + 16 * m..]);
     }
     units
 }
@@ -68,11 +66,9 @@ fn descriptors_of(b: &[u8], n: usize) -> [Descriptor; 192]
     requires { (n ≤ 192) × (128 + 9 * n ≤ length b.now) }
     ensures { result ≡ each n (λ i d. descriptor_of (drop (descriptor_place i) b.now)) nothing.descriptors }
 {
-    let nothing = System::nothing();
-    let mut descriptors = nothing.descriptors;
-    for i in 0..n {
-        let at = 128 + 9 * i;
-        descriptors[i] = descriptor_of(&b[at..]);
+    let mut descriptors = System::nothing().descriptors;
+    for (i, descriptor) in descriptors[..n].iter_mut().enumerate() {
+        *descriptor = descriptor_of(&b[128 + 9 * i..]);
     }
     descriptors
 }
@@ -82,12 +78,10 @@ fn shared_of(b: &[u8]) -> Shared
     ensures { result ≡ shared_of b.now }
 {
     let mut table = [0u8; 16];
-    for i in 0..16 {
-        table[i] = b[16 + i];
-    }
+    table.copy_from_slice(&b[16..32]);
     Shared {
         table,
-        gsr: Gsr::of(b[1]),
+        gsr: Gsr::from(b[1]),
         ivr: b[2],
         board: Board {
             count: b[0] as usize,

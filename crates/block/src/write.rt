@@ -1,6 +1,6 @@
 // Writing a lent block: one form for each system. Each function writes what stands at the front of the part that it is
 // lent, and leaves the rest.
-ghost use Rattle.std.specs.Prelude.{◌≡◌, ◌++◌, ◌+◌, ◌*◌, ◌-◌, ◌≤◌, length, drop, get_or};
+ghost use Rattle.std.specs.Prelude.{◌≡◌, ◌++◌, ◌+◌, ◌*◌, ◌-◌, ◌≤◌, length, drop, slice_index_or};
 ghost use Rattle.pieces.specs.Pieces.{pieces};
 ghost use Rattle.descriptors.specs.Descriptor.{zeros};
 ghost use Rattle.registers.specs.Unit.{no_unit};
@@ -16,24 +16,22 @@ fn put_descriptor(b: &mut [u8], d: Descriptor)
     requires { 9 ≤ length b.old }
     ensures { b.new ≡ descriptor_bytes d ++ drop 9 b.old }
 {
-    b[0] = (d.lba % 256) as u8;
-    b[1] = (d.lba / 256) as u8;
-    b[2] = (d.lam % 256) as u8;
-    b[3] = (d.lam / 256) as u8;
-    b[4] = (d.pba % 256) as u8;
-    b[5] = (d.pba / 256) as u8;
+    b[..2].copy_from_slice(&d.lba.to_le_bytes());
+    b[2..4].copy_from_slice(&d.lam.to_le_bytes());
+    b[4..6].copy_from_slice(&d.pba.to_le_bytes());
     b[6] = d.asn;
     b[7] = d.ssr;
     b[8] = d.asm;
 }
 
-fn put_descriptors(b: &mut [u8], descriptors: [Descriptor; 192], n: usize)
-    requires { (n ≤ 192) × (9 * n ≤ length b.old) }
-    ensures { b.new ≡ pieces n (λ i. descriptor_bytes (get_or descriptors i zeros)) ++ drop (9 * n) b.old }
+// Each is written to the part from its place on: of a slice that `chunks_exact_mut` lent, a proof keeps the length alone.
+fn put_descriptors(b: &mut [u8], descriptors: &[Descriptor])
+    requires { 9 * length descriptors.now ≤ length b.old }
+    ensures { b.new ≡ pieces (length descriptors.now) (λ i. descriptor_bytes (slice_index_or descriptors.now i zeros)) ++ drop (9 * length descriptors.now) b.old }
 {
-    for i in 0..n {
+    for (i, d) in descriptors.iter().enumerate() {
         let at = 9 * i;
-        put_descriptor(&mut b[at..], descriptors[i]);
+        put_descriptor(&mut b[at..], *d);
     }
 }
 
@@ -43,9 +41,8 @@ fn put_unit(b: &mut [u8], u: Unit)
 {
     let values = u.values();
     b[..9].copy_from_slice(&values);
-    let marks = u.marks();
-    b[9] = (marks % 256) as u8;
-    b[10] = (marks / 256) as u8;
+    let marks = u.marks().to_le_bytes();
+    b[9..11].copy_from_slice(&marks);
     b[11] = u.dp;
     b[12] = u.held_lsr();
     b[13] = u.rdp;
@@ -53,13 +50,14 @@ fn put_unit(b: &mut [u8], u: Unit)
     b[15] = 0;
 }
 
-fn put_units(b: &mut [u8], units: [Unit; 6], n: usize)
-    requires { (n ≤ 6) × (16 * n ≤ length b.old) }
-    ensures { b.new ≡ pieces n (λ m. unit_bytes (get_or units m no_unit)) ++ drop (16 * n) b.old }
+// From its place on, as above.
+fn put_units(b: &mut [u8], units: &[Unit])
+    requires { 16 * length units.now ≤ length b.old }
+    ensures { b.new ≡ pieces (length units.now) (λ m. unit_bytes (slice_index_or units.now m no_unit)) ++ drop (16 * length units.now) b.old }
 {
-    for m in 0..n {
+    for (m, unit) in units.iter().enumerate() {
         let at = 16 * m;
-        put_unit(&mut b[at..], units[m]);
+        put_unit(&mut b[at..], *unit);
     }
 }
 
@@ -69,7 +67,7 @@ fn put_shared(b: &mut [u8], shared: Shared)
 {
     pieces::put_zeros(b, 16);
     b[0] = (shared.board.count % 256) as u8;
-    b[1] = shared.gsr.byte();
+    b[1] = u8::from(shared.gsr);
     b[2] = shared.ivr;
     let table = shared.table;
     b[16..32].copy_from_slice(&table);
@@ -81,16 +79,13 @@ pub fn write(b: &mut [u8], system: System)
     if b.len() < read::SIZE {
         return;
     }
-    // All is taken before the first byte is written, and the descriptors are written first: so they are moved once.
     let shared = system.shared;
-    let units = system.units;
-    let descriptors = system.descriptors;
     let n = read::present(shared.board.count);
-    put_descriptors(&mut b[128..], descriptors, 32 * n);
+    put_descriptors(&mut b[128..], &system.descriptors[..32 * n]);
     let past_descriptors = 128 + 288 * n;
     pieces::put_zeros(&mut b[past_descriptors..], 3968 - 288 * n);
     put_shared(b, shared);
-    put_units(&mut b[32..], units, n);
+    put_units(&mut b[32..], &system.units[..n]);
     let past_units = 32 + 16 * n;
     pieces::put_zeros(&mut b[past_units..], 16 * (6 - n));
 }

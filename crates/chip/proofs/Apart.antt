@@ -1,6 +1,7 @@
 -- The enabled descriptors stay apart (demand 3, first sentence): every step of a call keeps it that no two of them clash.
 --     steps_apart       after any steps, and so after any call
 -- Assumes nothing.
+use Rattle.std.specs.Prelude.{Option, Some, None}
 use Prim.Native.Nat.{ℕ, ◌*◌, ◌<◌, ◌≤◌}
 use mathlib.Core.Path.{◌≡◌, refl, sym, ◌∙◌}
 use mathlib.Core.Bool.{Bool, true, false, false≢true}
@@ -18,8 +19,6 @@ use Rattle.chip.specs.System.{present, descriptor, with_units, with_shared, with
 use Rattle.chip.specs.Reset.{identity, unselected, fresh, unselectable}
 use Rattle.chip.specs.Clean.{Clean}
 use Rattle.chip.specs.declared.system.System.{System}
-use Rattle.chip.specs.declared.reset.Selected.{Selected}
-use Rattle.chip.specs.declared.reset.Selected.TheVariants as selected
 use Rattle.pieces.proofs.Stores.{everywhere}
 use Rattle.chip.proofs.Once.{Apart}
 use Rattle.chip.proofs.Parts.{descriptor_there, descriptor_elsewhere}
@@ -78,10 +77,10 @@ unselected_apart : (board : Board) → Apart (unselected board)
 unfolding Apart
 unselected_apart board i j hi hj ei ej c = absurd (false≢true (sym (off board i) ∙ ei))
 
-pub fresh_apart : (board : Board) (unit : Selected) → board.count ≤ 6 → unselectable unit board.count ≡ false → Apart (fresh board unit)
+pub fresh_apart : (board : Board) (unit : Option ℕ) → board.count ≤ 6 → unselectable unit board.count ≡ false → Apart (fresh board unit)
 unfolding fresh Clear unselected with_units with_shared
-fresh_apart board selected.Nobody few h = unselected_apart board
-fresh_apart board (selected.Unit m) few h =
+fresh_apart board None few h = unselected_apart board
+fresh_apart board (Some m) few h =
     let below = ltb-true m board.count (not-false (ltb m board.count) h) in
     replaced_apart (unselected board) (32 * m) identity (omega (arith, below)) (unselected_apart board)
     (λ k l n e f. absurd (false≢true (sym (off board k) ∙ f)))

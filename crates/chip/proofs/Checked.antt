@@ -13,6 +13,7 @@
 --     refused_system       where it is not, the system is as it was
 --     refused_alike        and what the call would do makes no difference
 -- Assumes nothing.
+use Rattle.std.specs.Prelude.{Option, Some, None, ok_or, option_map}
 use Prim.Native.Nat.{ℕ, ◌+◌, ◌*◌, ◌/◌, ◌%◌, ◌<◌, ◌^◌}
 use mathlib.Core.Path.{◌≡◌, refl}
 use mathlib.Core.Logic.{◌≢◌}
@@ -23,7 +24,7 @@ use lib.Dec.{lit<}
 use Rattle.descriptors.specs.Descriptor.{protected, matches}
 use Rattle.registers.specs.Shared.{entry}
 use Rattle.chip.specs.System.{present, descriptor}
-use Rattle.chip.specs.Search.{matching, near_place, named, told_by, searched, irq}
+use Rattle.chip.specs.Search.{matching, near_place, searched, irq, place}
 use Rattle.chip.specs.Answer.{number, values, refused, granted, checked, first_of, numbered}
 use Rattle.chip.specs.Access.{writes, undefined, match_at, translate_at, translate}
 use Rattle.chip.specs.Register.{operate}
@@ -31,8 +32,6 @@ use Rattle.chip.specs.Call.{checks, carried_out, performed}
 use Rattle.chip.specs.Reason.{Unmatched}
 use Rattle.chip.specs.declared.system.System.{System}
 use Rattle.chip.specs.declared.access.Cycle.{Cycle}
-use Rattle.chip.specs.declared.search.Found.{Found}
-use Rattle.chip.specs.declared.search.Found.TheVariants.{At, Nowhere}
 use Rattle.chip.specs.declared.register.Operation.TheVariants as operation
 use Rattle.chip.specs.declared.answer.Refusal.{Refusal}
 use Rattle.chip.specs.declared.answer.Refusal.TheVariants as refusal
@@ -87,7 +86,7 @@ module _ (c : Call) (s : System) where
 pub translate_law : (code : ℕ) (cycle : Cycle) (address : ℕ) (s : System) (P : Outcome → Type 0)
     → let page = address / 256 in let number = entry s.shared code in
     ((i : ℕ) → First (λ k. matches (descriptor s k) page number) 0 (0 + 32 * present s) i → P (match_at i cycle page number (address % 256) s))
-    → (Unmatched page number s → P (granted (Undefined (named (near_place page number s))) (undefined cycle page number s)))
+    → (Unmatched page number s → P (granted (Undefined (option_map place (near_place page number s))) (undefined cycle page number s)))
     → P (translate code cycle address s)
 unfolding translate translate_at searched
 translate_law code cycle address s P here nowhere = go (matching page number s) refl
@@ -98,10 +97,10 @@ translate_law code cycle address s P here nowhere = go (matching page number s) 
     number : ℕ
     number = entry s.shared code
 
-    go : (f : Found) → matching page number s ≡ f
-        → P (translate_at (told_by f (named (near_place page number s))) cycle page number (address % 256) s)
-    go (At i) e = here i (matching_found s page number i e)
-    go Nowhere e = nowhere (matching_missed s page number e)
+    go : (f : Option ℕ) → matching page number s ≡ f
+        → P (translate_at (ok_or f (option_map place (near_place page number s))) cycle page number (address % 256) s)
+    go (Some i) e = here i (matching_found s page number i e)
+    go None e = nowhere (matching_missed s page number e)
 
 -- an answer that is no refusal, with IRQ as it stands in the system that is left
 record IsGranted (o : Outcome) : Type 0 where

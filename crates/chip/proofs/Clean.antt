@@ -2,6 +2,7 @@
 --     units_clean, unit_clean, shared_clean, descriptor_clean      the four parts
 --     empty_clean, fresh_clean         before the first start, and after one
 -- Assumes nothing.
+use Rattle.std.specs.Prelude.{Option, Some, None}
 use Prim.Native.Nat.{ℕ, ◌*◌, ◌^◌, ◌<◌, ◌≤◌}
 use mathlib.Core.Path.{◌≡◌, refl, ◌∙◌}
 use mathlib.Core.Bool.{false}
@@ -27,8 +28,6 @@ use Rattle.chip.specs.System.{present, unit, with_units, with_shared, with_descr
 use Rattle.chip.specs.Reset.{blank, uninitialized, nothing, identity, unselected, fresh, unselectable}
 use Rattle.chip.specs.Clean.{Clean}
 use Rattle.chip.specs.declared.system.System.{System}
-use Rattle.chip.specs.declared.reset.Selected.{Selected}
-use Rattle.chip.specs.declared.reset.Selected.TheVariants as selected
 use Rattle.chip.proofs.Each.{length_each}
 use Rattle.chip.proofs.Parts.{each_unit, past_units}
 
@@ -114,9 +113,9 @@ unselected_clean board h =
     (record { entries = refl; entry = zero_fits; ivr = lit< tt; count = omega arith }))
     (λ m u. becomes_clean (untold same))
 
-pub fresh_clean : (board : Board) (unit : Selected) → board.count ≤ 6 → unselectable unit board.count ≡ false → Clean (fresh board unit)
+pub fresh_clean : (board : Board) (unit : Option ℕ) → board.count ≤ 6 → unselectable unit board.count ≡ false → Clean (fresh board unit)
 unfolding fresh unselected with_units with_shared
-fresh_clean board selected.Nobody h q = unselected_clean board h
-fresh_clean board (selected.Unit m) h q =
+fresh_clean board None h q = unselected_clean board h
+fresh_clean board (Some m) h q =
     let below = ltb-true m board.count (not-false (ltb m board.count) q) in
     descriptor_clean (unselected board) (32 * m) identity (unselected_clean board h) (omega arith) identity_clean

@@ -1,4 +1,5 @@
 -- The count is one to six, if it was: no step changes it but a fresh start, whose own is. Assumes nothing.
+use Rattle.std.specs.Prelude.{Option, Some, None, ℕ}
 use mathlib.Core.Path.{◌≡◌}
 use mathlib.Core.Bool.{false}
 use Rattle.registers.specs.declared.shared.Board.{Board}
@@ -6,17 +7,15 @@ use Rattle.chip.specs.System.{with_units, with_shared, with_descriptor}
 use Rattle.chip.specs.Answer.{miscounted}
 use Rattle.chip.specs.Reset.{unselected, fresh}
 use Rattle.chip.specs.declared.system.System.{System}
-use Rattle.chip.specs.declared.reset.Selected.{Selected}
-use Rattle.chip.specs.declared.reset.Selected.TheVariants as selected
 use Rattle.chip.proofs.Steps.{Steps, stays, renewed, units, turned, global, one_unit, shared, status, loaded}
 
 abbrev pub Counted : System → Type 0
 Counted s = miscounted s.shared.board.count ≡ false
 
-pub fresh_counted : (board : Board) (selected : Selected) → miscounted board.count ≡ false → Counted (fresh board selected)
+pub fresh_counted : (board : Board) (selected : Option ℕ) → miscounted board.count ≡ false → Counted (fresh board selected)
 unfolding fresh unselected with_units with_shared with_descriptor
-fresh_counted board selected.Nobody good = good
-fresh_counted board (selected.Unit m) good = good
+fresh_counted board None good = good
+fresh_counted board (Some m) good = good
 
 pub steps_counted : {s t : System} → Steps s t → Counted s → Counted t
 unfolding with_units with_shared with_descriptor

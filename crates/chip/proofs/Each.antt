@@ -1,17 +1,17 @@
 -- Laws of `each`: a loop that replaces one element after the other makes it, or fills an array from the front.
---     each_more, each_at, each_past, length_each, each_related     what is done to each of the first n
+--     each_more, each_at, each_past, each_front, length_each, each_related     what is done to each of the first n
 --     filled_is, filled_below, filled_past, length_filled     an array whose first n elements are put in
 --     begun, next, ended      a loop that does so
 -- Assumes nothing.
 use Prim.Native.Nat.{ℕ, zero, suc, ◌+◌, ◌<◌, ◌≤◌}
 use mathlib.Core.Path.{◌≡◌, refl, sym, ap, ◌∙◌}
 use mathlib.Core.Bool.{Bool, true, false}
-use mathlib.Core.List.{List, [], ◌∷◌}
+use mathlib.Core.List.{List, [], ◌∷◌, ◌++◌}
 use native.Mathlib.Nat.{le_of_suc-le-suc, not-suc-le-zero}
 use native.Mathlib.Numerals.{add-one}
 use native.Mathlib.Omega.{arith}
 use lib.Dec.{ltb}
-use lib.ListN.{length, get_or, set, replicate, length-replicate, get_or-replicate}
+use lib.ListN.{length, get_or, set, take, drop, replicate, length-replicate, get_or-replicate}
 use lib.Seq.{ext_get_or}
 use borrow.Author.Tests.{ltb-true, ltb-false}
 use Rattle.chip.specs.System.{each}
@@ -41,6 +41,13 @@ module _ {A : Type 0} (d : A) where
   each_past (suc n) f [] i l = refl
   each_past (suc n) f (x ∷ xs) zero l = absurd (not-suc-le-zero l)
   each_past (suc n) f (x ∷ xs) (suc i) l = each_past n (λ k. f (suc k)) xs i (le_of_suc-le-suc l)
+
+-- a loop over the first n elements leaves the others
+pub each_front : {A : Type 0} (n : ℕ) (f : ℕ → A → A) (xs : List A) → each n f (take n xs) ++ drop n xs ≡ each n f xs
+unfolding each
+each_front zero f xs = refl
+each_front (suc n) f [] = refl
+each_front {A = A} (suc n) f (x ∷ xs) = ap (λ (ys : List A). f 0 x ∷ ys) (each_front n (λ i. f (suc i)) xs)
 
 pub length_each : {A : Type 0} (n : ℕ) (f : ℕ → A → A) (xs : List A) → length (each n f xs) ≡ length xs
 unfolding each

@@ -3,6 +3,7 @@
 --     granted_leaves, refused_leaves          a load, and of a refused one where each unit's lowest collision is
 --     translation_leaves                      a direct translation
 -- Assumes nothing.
+use Rattle.std.specs.Prelude.{Option, Some, None, Result, Ok, Err, is_some, ok_or, option_map}
 use Prim.Native.Nat.{ℕ, ◌+◌, ◌*◌, ◌-◌, ◌/◌, ◌%◌, ◌<◌}
 use mathlib.Core.Path.{◌≡◌, refl, sym, ap, ◌∙◌}
 use mathlib.Core.Logic.{◌≢◌}
@@ -18,7 +19,7 @@ use Rattle.registers.specs.Shared.{entry, faulted}
 use Rattle.registers.specs.declared.unit.Unit.{Unit}
 use Rattle.registers.specs.declared.shared.Shared.{Shared}
 use Rattle.chip.specs.System.{present, unit, descriptor, pointed, with_units, with_shared, with_descriptor, with_unit, in_all}
-use Rattle.chip.specs.Search.{found, in_system, in_unit, matching, near_place, named, told_by, searched}
+use Rattle.chip.specs.Search.{in_system, in_unit, matching, near_place, searched, place}
 use Rattle.chip.specs.Answer.{violating, undefined as undefined_kind, values, refused, granted}
 use Rattle.chip.specs.Access.{reads_first, writes, read_half, fault, violation, undefined, match_at}
 use Rattle.chip.specs.Prepare.{prepare}
@@ -29,11 +30,6 @@ use Rattle.chip.specs.Event.{status, leaves, Left, Lowest}
 use Rattle.chip.specs.Event as event
 use Rattle.chip.specs.declared.system.System.{System}
 use Rattle.chip.specs.declared.access.Cycle.{Cycle}
-use Rattle.chip.specs.declared.search.Found.{Found}
-use Rattle.chip.specs.declared.search.Found.TheVariants.{At, Nowhere}
-use Rattle.chip.specs.declared.search.Near.{Near}
-use Rattle.chip.specs.declared.search.Search.{Search}
-use Rattle.chip.specs.declared.search.Search.TheVariants.{Match, NoMatch}
 use Rattle.chip.specs.declared.answer.Reading.{Reading}
 use Rattle.chip.specs.declared.answer.Outcome.{Outcome}
 use Rattle.chip.specs.declared.call.Call.TheVariants as call
@@ -44,6 +40,7 @@ use Rattle.chip.proofs.Parts.{each_unit, unit_there, unit_elsewhere}
 use Rattle.chip.proofs.Once.{matching_found}
 use Rattle.chip.proofs.Steps.{prepare_places}
 use Rattle.chip.proofs.Loading.{prepared, load_is, load_shared, off, collides_law}
+use Rattle.chip.specs.declared.search.Place.{Place}
 
 abbrev Six : System → Type 0
 Six s = length s.units ≡ 6
@@ -139,13 +136,13 @@ access_leaves code cycle address s us =
 
 -- ---- 4.6.3.2: a load
 
-blamed : (k : ℕ) (f : Found) (u : Unit) → status (blame f u) ≡ leaves (event.load_refused (λ j. f)) k u.rw
-blamed k (At i) u = refl
-blamed k Nowhere u = refl
+blamed : (k : ℕ) (f : Option ℕ) (u : Unit) → status (blame f u) ≡ leaves (event.load_refused (λ j. f)) k u.rw
+blamed k (Some i) u = refl
+blamed k None u = refl
 
 module _ (d : Descriptor) (i : ℕ) (s : System) where
   -- where each unit's lowest collision is
-  abbrev lowest : ℕ → Found
+  abbrev lowest : ℕ → Option ℕ
   lowest k = in_unit (collides d) k (off i s)
 
   load_at_leaves : Six s → (k : ℕ) → k < present s → let r = load_at d i s in
@@ -157,7 +154,7 @@ module _ (d : Descriptor) (i : ℕ) (s : System) where
       (λ (r : Reading). (r.byte ≢ 0xFF → status (unit r.system k) ≡ leaves event.load_granted k (unit s k).rw)
       × (r.byte ≡ 0xFF → (enabled d ≡ true) × (status (unit r.system k) ≡ leaves (event.load_refused lowest) k (unit s k).rw)))
       (collision d (off i s))
-      (λ c. (λ n. absurd (n refl), λ e. (((and-eq-true_iff (enabled d) (found (in_system (collides d) (off i s)))).0 c).0, ap status (each_unit (off i s) _ k h (omega arith)) ∙ blamed k (lowest k) (unit s k))))
+      (λ c. (λ n. absurd (n refl), λ e. (((and-eq-true_iff (enabled d) (is_some (in_system (collides d) (off i s)))).0 c).0, ap status (each_unit (off i s) _ k h (omega arith)) ∙ blamed k (lowest k) (unit s k))))
       (λ c. (λ n. ap status (done _ (with_descriptor (off i s) i d) us k h), λ e. absurd (omega arith)))
 
   lowest_law : i < length s.descriptors → enabled d ≡ true → (k : ℕ) → Lowest d i k s (lowest k)
@@ -166,34 +163,34 @@ module _ (d : Descriptor) (i : ℕ) (s : System) where
       none_there : (j : ℕ) → collides d (descriptor (off i s) j) ≡ false → CollidesWith d i j s → ⊥
       none_there j e c = false≢true (sym e ∙ (collides_law d i s there asks j).1 c)
 
-      go : (f : Found) → lowest k ≡ f → Lowest d i k s f
-      go (At j) e =
+      go : (f : Option ℕ) → lowest k ≡ f → Lowest d i k s f
+      go (Some j) e =
           let f = first_found (λ j. collides d (descriptor (off i s) j)) (32 * k) 32 j e in
           let low = f.low in
           let high = f.high in
           (j - 32 * k, omega arith, omega arith, (collides_law d i s there asks j).0 f.here, λ l h. none_there (32 * k + l) (f.before (32 * k + l) (omega arith) (omega arith)))
-      go Nowhere e = λ n h.
+      go None e = λ n h.
           none_there (32 * k + n) (first_missed (λ j. collides d (descriptor (off i s) j)) (32 * k) 32 e (32 * k + n) (omega arith) (omega arith))
 
 -- where the collisions are depends on the descriptors alone
-lowest_same : (d : Descriptor) (i k : ℕ) (s t : System) → t.descriptors ≡ s.descriptors → (f : Found) → Lowest d i k t f → Lowest d i k s f
+lowest_same : (d : Descriptor) (i k : ℕ) (s t : System) → t.descriptors ≡ s.descriptors → (f : Option ℕ) → Lowest d i k t f → Lowest d i k s f
 unfolding CollidesWith
-lowest_same d i k s t e (At j) l = rw e at l
-lowest_same d i k s t e Nowhere l = rw e at l
+lowest_same d i k s t e (Some j) l = rw e at l
+lowest_same d i k s t e None l = rw e at l
 
 -- ---- 4.6.3.3: a direct translation
 
-result_leaves : (f : Found) (near : Near) (page : ℕ) (s : System) → Six s → ((i : ℕ) → f ≡ At i → i / 32 < present s)
-    → (k : ℕ) → k < present s → status (unit (result_at (told_by f near) page s).system k) ≡ leaves (event.translation f) k (unit s k).rw
+result_leaves : (f : Option ℕ) (near : Option Place) (page : ℕ) (s : System) → Six s → ((i : ℕ) → f ≡ Some i → i / 32 < present s)
+    → (k : ℕ) → k < present s → status (unit (result_at (ok_or f near) page s).system k) ≡ leaves (event.translation f) k (unit s k).rw
 unfolding result_at with_units
-result_leaves (At i) near page s us there k h =
+result_leaves (Some i) near page s us there k h =
     one_more _ (translated (physical_page (descriptor s i) page) (i % 32)) s us (i / 32) k (there i refl) h
-result_leaves Nowhere near page s us there k h = ap status (done _ s us k h)
+result_leaves None near page s us there k h = ap status (done _ s us k h)
 
-result_shared : (x : Search) (page : ℕ) (s : System) → (result_at x page s).system.shared ≡ s.shared
+result_shared : (x : Result ℕ (Option Place)) (page : ℕ) (s : System) → (result_at x page s).system.shared ≡ s.shared
 unfolding result_at with_units
-result_shared (Match i) page s = refl
-result_shared (NoMatch near) page s = refl
+result_shared (Ok i) page s = refl
+result_shared (Err near) page s = refl
 
 -- ---- both, by unit m's accumulator
 
@@ -212,7 +209,7 @@ module _ (m : ℕ) (s : System) (h : m < present s) (us : length s.units ≡ 6) 
   granted_leaves ds n = record { units = λ k l. (loads k l).0 n; gsr = ap (λ (h : Shared). h.gsr) (load_shared m s h us ds) }
 
   pub refused_leaves : length s.descriptors ≡ 192 → (load m s).byte ≡ 0xFF
-      → (lowest : ℕ → Found) × ((k : ℕ) → Lowest (segment (unit s m)) (pointed m s) k s (lowest k)) × Left (event.load_refused lowest) s (load m s).system
+      → (lowest : ℕ → Option ℕ) × ((k : ℕ) → Lowest (segment (unit s m)) (pointed m s) k s (lowest k)) × Left (event.load_refused lowest) s (load m s).system
   refused_leaves ds e =
       let p = prepare for_load m s in
       let same = (prepare_places for_load m s).0 in (
@@ -228,14 +225,14 @@ module _ (m : ℕ) (s : System) (h : m < present s) (us : length s.units ≡ 6) 
       let same = prepare_places for_translation m s in
       let p = prepared for_translation m s h us in
       let values = p.same.1 in
-      let near = named (near_place (word (unit t m) 0) (ac (unit t m) 6) t) in
+      let near = option_map place (near_place (word (unit t m) 0) (ac (unit t m) 6) t) in
       let f = matching (word (unit s m) 0) (ac (unit s m) 6) s in
       let e : matching (word (unit t m) 0) (ac (unit t m) 6) t ≡ f = rw (values 0, values 1, values 6, same.0, same.1) refl in
-      let there : (i : ℕ) → f ≡ At i → i / 32 < present t =
+      let there : (i : ℕ) → f ≡ Some i → i / 32 < present t =
       λ i q. rw same.1 (omega (arith, (matching_found s (word (unit s m) 0) (ac (unit s m) 6) i q).high)) in
       record {
         units = λ k l.
-            ap (λ (f : Found). status (unit (result_at (told_by f near) (word (unit t m) 0) t).system k)) e
+            ap (λ (f : Option ℕ). status (unit (result_at (ok_or f near) (word (unit t m) 0) t).system k)) e
             ∙ result_leaves f near (word (unit t m) 0) t p.six there k (rw same.1 l)
             ∙ ap (leaves (event.translation f) k) (p.rw k l);
         gsr = ap (λ (h : Shared). h.gsr) (result_shared _ (word (unit t m) 0) t ∙ same.1);

@@ -1,4 +1,5 @@
 -- Every value that a call answers fits its field of the 64-bit answer, so that nothing is cut off. Assumes nothing.
+use Rattle.std.specs.Prelude.{Option, Some, None, ok_or, option_map}
 use Prim.Native.Nat.{ℕ, ◌/◌, ◌^◌, ◌<◌}
 use mathlib.Core.Bool.{◌&&◌}
 use native.Mathlib.Omega.{arith}
@@ -10,7 +11,7 @@ use Rattle.descriptors.specs.declared.descriptor.Descriptor.{Descriptor}
 use Rattle.registers.specs.Shared.{entry}
 use Rattle.registers.proofs.Numbers.{lsr_fits, gsr_fits, rdp_fits}
 use Rattle.chip.specs.System.{present, unit, descriptor, pointed, with_descriptor}
-use Rattle.chip.specs.Search.{number_of, in_unit, lip, searched, told_by, named, near_place, matching}
+use Rattle.chip.specs.Search.{number_of, in_unit, lip, searched, near_place, matching, place}
 use Rattle.chip.specs.Answer.{done, byte_read, undefined, of_kind, carrying, values, refused, granted}
 use Rattle.chip.specs.Access.{writes, match_at}
 use Rattle.chip.specs.Transfer.{transfer}
@@ -23,10 +24,6 @@ use Rattle.chip.specs.declared.system.System.{System}
 use Rattle.chip.specs.declared.call.Call.{Call}
 use Rattle.chip.specs.declared.call.Call.TheVariants as call
 use Rattle.chip.specs.declared.access.Cycle.{Cycle}
-use Rattle.chip.specs.declared.search.Found.{Found}
-use Rattle.chip.specs.declared.search.Found.TheVariants.{At, Nowhere}
-use Rattle.chip.specs.declared.search.Near.{Near}
-use Rattle.chip.specs.declared.search.Near.TheVariants.{Nothing}
 use Rattle.chip.specs.declared.register.Register.{Register}
 use Rattle.chip.specs.declared.register.Register.TheVariants as registers
 use Rattle.chip.specs.declared.register.Operation.TheVariants as operation
@@ -37,6 +34,7 @@ use Rattle.chip.specs.declared.answer.Values.{Values}
 use Rattle.chip.proofs.Checked.{refusal_told, either, NoneOf, outcome_law, translate_law}
 use Rattle.chip.proofs.Counts.{counted_present}
 use Rattle.chip.proofs.Near.{Small, near_small}
+use Rattle.chip.specs.declared.search.Place.{Place}
 
 pub record Fit (v : Values) : Type 0 where
   pub number : v.number < 2 ^ 8
@@ -49,7 +47,7 @@ pub record Fit (v : Values) : Type 0 where
 kind_fits : (kind : ℕ) → kind < 2 ^ 4 → Fit (of_kind kind)
 kind_fits kind h = record { number = lit< tt; kind = h; unit = lit< tt; descriptor = lit< tt; byte = lit< tt; address = lit< tt }
 
-carrying_fits : (kind : ℕ) (near : Near) (byte : ℕ) → kind < 2 ^ 4 → Small near → byte < 2 ^ 8 → Fit (carrying kind near byte)
+carrying_fits : (kind : ℕ) (near : Option Place) (byte : ℕ) → kind < 2 ^ 4 → Small near → byte < 2 ^ 8 → Fit (carrying kind near byte)
 carrying_fits kind near byte h n b =
     record { number = lit< tt; kind = h; unit = n.0; descriptor = n.1; byte = b; address = lit< tt }
 
@@ -73,15 +71,15 @@ match_fits i cycle page number offset s o h =
     })
 
 -- 4.6.1: the byte of each register
-idp_fits : (f : Found) → number_of f < 2 ^ 8
-idp_fits (At i) = omega arith
-idp_fits Nowhere = lit< tt
+idp_fits : (f : Option ℕ) → number_of f < 2 ^ 8
+idp_fits (Some i) = omega arith
+idp_fits None = lit< tt
 
 -- a byte, and what is near
 abbrev Reads : Reading → Type 0
 Reads r = (r.byte < 2 ^ 8) × Small r.near
 
-no_reason : Small Nothing
+no_reason : Small None
 no_reason = (lit< tt, lit< tt)
 
 load_fits : (d : Descriptor) (i : ℕ) (s : System) → Reads (load_at d i s)
@@ -93,9 +91,9 @@ result_fits : (page number : ℕ) (s : System) → Reads (result_at (searched pa
 unfolding result_at searched
 result_fits page number s = go (matching page number s)
   where
-    go : (f : Found) → Reads (result_at (told_by f (named (near_place page number s))) page s)
-    go (At i) = (lit< tt, no_reason)
-    go Nowhere = (lit< tt, near_small page number s)
+    go : (f : Option ℕ) → Reads (result_at (ok_or f (option_map place (near_place page number s))) page s)
+    go (Some i) = (lit< tt, no_reason)
+    go None = (lit< tt, near_small page number s)
 
 read_fits : (r : Register) (m : ℕ) (s : System) → Clean s → m < present s → Reads (read r m s)
 unfolding read transfer direct_translation load
@@ -128,10 +126,10 @@ performed_fit c s k = outcome_law c s Fits refused_fits (go c)
         (λ u.
         let page = address / 256 in
         let number = entry s.shared code in
-        carrying_fits undefined (named (near_place page number s)) 0 (lit< tt) (near_small page number s) (lit< tt))
+        carrying_fits undefined (option_map place (near_place page number s)) 0 (lit< tt) (near_small page number s) (lit< tt))
     go (call.Register m address operation.Read) n =
         let r = register_at address in
         let fits = read_fits r m s k (counted_present m s.shared.board.count n.0 n.1.0) in
         carrying_fits byte_read (read r m s).near (read r m s).byte (lit< tt) fits.1 fits.0
     go (call.Register m address (operation.Write value)) n = kind_fits done (lit< tt)
-    go (call.Acknowledge m) n = carrying_fits byte_read Nothing s.shared.ivr (lit< tt) no_reason k.shared.ivr
+    go (call.Acknowledge m) n = carrying_fits byte_read None s.shared.ivr (lit< tt) no_reason k.shared.ivr

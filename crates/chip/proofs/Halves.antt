@@ -2,6 +2,7 @@
 --     modify_undefined    an undefined one is the read alone
 --     modify_halves       any other is the write after the read, the answer and the system
 -- Assumes nothing.
+use Rattle.std.specs.Prelude.{Option, Some, None, Result, ok_or, option_map}
 use Prim.Native.Nat.{ℕ, ◌/◌, ◌%◌, ◌*◌, ◌<◌, ◌^◌}
 use mathlib.Core.Path.{◌≡◌, refl, sym, ap, ◌∙◌}
 use mathlib.Core.Logic.{◌≢◌}
@@ -20,7 +21,7 @@ use Rattle.descriptors.proofs.Raised.{used_raised, used_twice}
 use Rattle.descriptors.specs.declared.descriptor.Descriptor.{Descriptor}
 use Rattle.registers.specs.Shared.{entry}
 use Rattle.chip.specs.System.{present, descriptor, with_descriptor}
-use Rattle.chip.specs.Search.{matching, near_place, named, told_by, searched}
+use Rattle.chip.specs.Search.{matching, near_place, searched, place}
 use Rattle.chip.specs.Answer.{undefined as undefined_kind, values, first_of, numbered, granted}
 use Rattle.chip.specs.Access.{touch, read_half, undefined, match_at, translate_at, translate}
 use Rattle.chip.specs.Call.{checks, performed}
@@ -28,9 +29,6 @@ use Rattle.chip.specs.Clean.{Clean}
 use Rattle.chip.specs.declared.system.System.{System}
 use Rattle.chip.specs.declared.access.Cycle.{Cycle}
 use Rattle.chip.specs.declared.access.Cycle.TheVariants.{Read, Write, ReadModifyWrite}
-use Rattle.chip.specs.declared.search.Found.{Found}
-use Rattle.chip.specs.declared.search.Found.TheVariants.{At, Nowhere}
-use Rattle.chip.specs.declared.search.Search.{Search}
 use Rattle.chip.specs.declared.answer.Outcome.{Outcome}
 use Rattle.chip.specs.declared.call.Call.{Call}
 use Rattle.chip.specs.declared.call.Call.TheVariants.{Access}
@@ -38,6 +36,7 @@ use Rattle.chip.proofs.Checked.{either, performed_granted, refused_system, refus
 use Rattle.chip.proofs.First.{first_at}
 use Rattle.chip.proofs.Once.{matching_found}
 use Rattle.chip.proofs.Parts.{descriptor_there, descriptor_elsewhere}
+use Rattle.chip.specs.declared.search.Place.{Place}
 
 -- ---- a segment that was read, at place i
 
@@ -56,7 +55,7 @@ module _ (i : ℕ) (s : System) (h : i < length s.descriptors) where
   there : descriptor after_read i ≡ with_ssr (descriptor s i) (used (descriptor s i).ssr)
   there = descriptor_there s i _ h
 
-  matched_again : (page number : ℕ) → matching page number s ≡ At i → matching page number after_read ≡ At i
+  matched_again : (page number : ℕ) → matching page number s ≡ Some i → matching page number after_read ≡ Some i
   unfolding with_descriptor
   matched_again page number e =
       let f = matching_found s page number i e in
@@ -89,8 +88,8 @@ module _ (code address : ℕ) (s : System) where
   abbrev number : ℕ
   number = entry s.shared code
 
-  abbrev found_at : Found → Search
-  found_at f = told_by f (named (near_place page number s))
+  abbrev found_at : Option ℕ → Result ℕ (Option Place)
+  found_at f = ok_or f (option_map place (near_place page number s))
 
   -- the checks of an access do not ask for its cycle
   abbrev refusal : ℕ
@@ -105,12 +104,12 @@ module _ (code address : ℕ) (s : System) where
   unfolding translate translate_at searched match_at undefined granted
   modify_undefined u = go (eqb refusal 0) refl
     where
-      alone : (f : Found) → (values (translate_at (found_at f) ReadModifyWrite page number (address % 256) s).answer).kind ≡ undefined_kind
+      alone : (f : Option ℕ) → (values (translate_at (found_at f) ReadModifyWrite page number (address % 256) s).answer).kind ≡ undefined_kind
           → translate_at (found_at f) ReadModifyWrite page number (address % 256) s ≡ translate_at (found_at f) Read page number (address % 256) s
-      alone (At i) =
+      alone (Some i) =
           either (λ (o : Outcome). (values o.answer).kind ≡ undefined_kind → o ≡ match_at i Read page number (address % 256) s)
           (protected (descriptor s i)) (λ p k. absurd (omega arith)) (λ p k. absurd (omega arith))
-      alone Nowhere = λ k. refl
+      alone None = λ k. refl
 
       go : (b : Bool) → eqb refusal 0 ≡ b → performed (by ReadModifyWrite) s ≡ performed (by Read) s
       go true q =
@@ -124,20 +123,20 @@ module _ (code address : ℕ) (s : System) where
   unfolding translate translate_at searched match_at granted with_descriptor
   modify_halves c u = go (eqb refusal 0) refl
     where
-      both : (f : Found) → matching page number s ≡ f → refusal ≡ 0
+      both : (f : Option ℕ) → matching page number s ≡ f → refusal ≡ 0
           → (values (translate_at (found_at f) ReadModifyWrite page number (address % 256) s).answer).kind ≢ undefined_kind
           → translate_at (found_at f) ReadModifyWrite page number (address % 256) s ≡ performed (by Write) (translate_at (found_at f) Read page number (address % 256) s).system
-      both (At i) e granted k =
+      both (Some i) e granted k =
           let inside : i < 32 * present s = omega (arith, (matching_found s page number i e).high) in
           let there : i < length s.descriptors = omega (arith, c.places.1) in
           let fits = status_fits (descriptor s i).ssr (c.descriptors i inside).ssr in
           sym
           ((performed_granted (by Write) (touch Read i s) granted).1
           ∙ ap
-          (λ (f : Found). translate_at (told_by f (named (near_place page number (touch Read i s)))) Write page number (address % 256) (touch Read i s))
+          (λ (f : Option ℕ). translate_at (ok_or f (option_map place (near_place page number (touch Read i s)))) Write page number (address % 256) (touch Read i s))
           (matched_again i s there page number e)
           ∙ write_after_read i s there page number (address % 256) fits)
-      both Nowhere e granted k = absurd (k refl)
+      both None e granted k = absurd (k refl)
 
       go : (b : Bool) → eqb refusal 0 ≡ b → performed (by ReadModifyWrite) s ≡ performed (by Write) (performed (by Read) s).system
       go true q =

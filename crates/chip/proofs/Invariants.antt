@@ -3,6 +3,7 @@
 --     performed_kept      after any call
 --     started, was_reset      and after a granted start or reset of any system
 -- Assumes nothing.
+use Rattle.std.specs.Prelude.{Option}
 use Prim.Native.Nat.{ℕ, ◌<◌, ◌^◌}
 use mathlib.Core.Path.{◌≡◌}
 use mathlib.Core.Bool.{false}
@@ -12,7 +13,6 @@ use Rattle.chip.specs.Reset.{fresh, unselectable}
 use Rattle.chip.specs.Call.{checks, performed}
 use Rattle.chip.specs.Clean.{Clean}
 use Rattle.chip.specs.declared.system.System.{System}
-use Rattle.chip.specs.declared.reset.Selected.{Selected}
 use Rattle.chip.specs.declared.call.Call.{Call}
 use Rattle.chip.specs.declared.call.Call.TheVariants.{Start, Reset}
 use Rattle.chip.proofs.Counts.{well_counted}
@@ -40,7 +40,7 @@ performed_kept c s k v =
       agreed = steps_agreed p k.agreed;
     }
 
-fresh_kept : (board : Board) (selected : Selected) → miscounted board.count ≡ false → unselectable selected board.count ≡ false
+fresh_kept : (board : Board) (selected : Option ℕ) → miscounted board.count ≡ false → unselectable selected board.count ≡ false
     → Invariants (fresh board selected)
 fresh_kept board selected good h =
     let few = well_counted board.count good in
@@ -52,14 +52,14 @@ fresh_kept board selected good h =
     }
 
 module _ (s : System) where
-  pub started : (count : ℕ) (selected : Selected) → let c = Start count selected in
+  pub started : (count : ℕ) (selected : Option ℕ) → let c = Start count selected in
       first_of (numbered (checks c s)) ≡ 0 → Invariants (performed c s).system
   unfolding granted
   started count selected e =
       let g = performed_granted (Start count selected) s e in
       rw g.1 (fresh_kept _ selected g.0.0 g.0.1.0)
 
-  pub was_reset : (selected : Selected) → let c = Reset selected in
+  pub was_reset : (selected : Option ℕ) → let c = Reset selected in
       first_of (numbered (checks c s)) ≡ 0 → Invariants (performed c s).system
   unfolding granted
   was_reset selected e =

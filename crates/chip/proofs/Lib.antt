@@ -1,5 +1,6 @@
 pub mod Each
 pub mod First
+pub mod Sought
 pub mod Passed
 pub mod Units
 pub mod Parts

@@ -5,6 +5,7 @@
 --     load_shared         it changes no shared register
 --     load_harmless       what was matched before a load into a disabled descriptor is matched after it
 -- Assumes nothing.
+use Rattle.std.specs.Prelude.{Some, is_some}
 use Prim.Native.Nat.{ℕ, zero, suc, ◌+◌, ◌*◌, ◌<◌, ◌^◌}
 use mathlib.Core.Path.{◌≡◌, refl, sym, ap, ◌∙◌}
 use mathlib.Core.Logic.{◌≢◌, ◌↔◌}
@@ -25,11 +26,10 @@ use Rattle.registers.specs.declared.unit.Byte.{Byte}
 use Rattle.registers.specs.declared.unit.Unit.{Unit}
 use Rattle.chip.specs.System.{present, unit, descriptor, pointed, with_units, with_descriptor}
 use Rattle.chip.specs.Prepare.{inconsistent, send, send_all, prepare}
-use Rattle.chip.specs.Search.{found, in_system, matching}
+use Rattle.chip.specs.Search.{in_system, matching}
 use Rattle.chip.specs.Answer.{reading}
 use Rattle.chip.specs.Load.{CollidesWith, Collision, collision, load_at, load}
 use Rattle.chip.specs.declared.system.System.{System}
-use Rattle.chip.specs.declared.search.Found.TheVariants.{At}
 use Rattle.chip.specs.declared.answer.Reading.{Reading}
 use Rattle.chip.proofs.Checked.{either}
 use Rattle.chip.proofs.Each.{length_each}
@@ -125,7 +125,7 @@ module _ (d : Descriptor) (i : ℕ) (s : System) (there : i < length s.descripto
     where
       to : collision d t ≡ true → Collision d i s
       to c =
-          let f = at_some (in_system (collides d) t) ((and-eq-true_iff (enabled d) (found (in_system (collides d) t))).0 c).1 in
+          let f = at_some (in_system (collides d) t) ((and-eq-true_iff (enabled d) (is_some (in_system (collides d) t))).0 c).1 in
           let k = first_found (λ k. collides d (descriptor t k)) 0 (32 * present t) f.0 f.1 in
           (f.0, omega (arith, k.high), (collides_law f.0).0 k.here)
 
@@ -215,8 +215,8 @@ module _ (m : ℕ) (s : System) (h : m < present s) (us : length s.units ≡ 6) 
           absurd (kept ((load_refused asks).1 (k, h, (page, number, p, n, other, rw d at q, e))))
 
   pub load_harmless : enabled (descriptor s (pointed m s)) ≡ false → (page number k : ℕ) → page < 2 ^ 16 → number < 2 ^ 8
-      → matching page number s ≡ At k
-      → (matching page number (load m s).system ≡ At k) × (descriptor (load m s).system k ≡ descriptor s k)
+      → matching page number s ≡ Some k
+      → (matching page number (load m s).system ≡ Some k) × (descriptor (load m s).system k ≡ descriptor s k)
   load_harmless off page number k p n e = (
     first_at found_by 0 (32 * present after) k (omega arith) (rw load_shared (omega (arith, high))) (λ j a b. lower j (f.before j a b) (eqb j place) refl)
         (rw same_place f.here),

@@ -1,6 +1,7 @@
 -- No stale neighbour (handbook 3.2.4): a byte of the accumulator that is marked global in two units has the same value in both.
 --     steps_agreed      after any steps, and so after any call
 -- Assumes nothing.
+use Rattle.std.specs.Prelude.{Option, Some, None}
 use Prim.Native.Nat.{ℕ, zero, suc, ◌<◌}
 use mathlib.Core.Path.{◌≡◌, refl}
 use mathlib.Core.Bool.{true, false≢true}
@@ -14,8 +15,6 @@ use Rattle.registers.specs.declared.shared.Board.{Board}
 use Rattle.chip.specs.System.{present, unit, with_units, with_shared, with_descriptor, with_unit, in_each, in_all}
 use Rattle.chip.specs.Reset.{blank, unselected, fresh}
 use Rattle.chip.specs.declared.system.System.{System}
-use Rattle.chip.specs.declared.reset.Selected.{Selected}
-use Rattle.chip.specs.declared.reset.Selected.TheVariants as selected
 use Rattle.pieces.proofs.Stores.{stored}
 use Rattle.registers.proofs.Becomes.{Fewer, becomes_fewer}
 use Rattle.chip.proofs.Each.{each_related}
@@ -64,9 +63,9 @@ global_agreed s i value a j m k hm hk =
     at = each_related (λ u v. v ≡ write_ac i value u) no_unit (present s) (λ k. write_ac i value) s.units refl (λ k u. refl)
 
 -- 4.5.1
-pub fresh_agreed : (board : Board) (selected : Selected) → Agreed (fresh board selected)
+pub fresh_agreed : (board : Board) (selected : Option ℕ) → Agreed (fresh board selected)
 unfolding fresh unselected Agreed with_shared with_descriptor
-fresh_agreed board = elim [ selected.Nobody ↦ cleared | selected.Unit m ↦ cleared ]
+fresh_agreed board = elim [ None ↦ cleared | Some m ↦ cleared ]
   where
     cleared : Agreed (unselected board)
     cleared =

@@ -3,6 +3,7 @@
 --     translation_reason     a direct translation: $FF exactly where nothing matches, and then it does
 --     carries_only           no other call, and no other answer of these, carries one
 -- Assumes nothing.
+use Rattle.std.specs.Prelude.{Option, Some, None, Result, Ok, Err, ok_or, option_map}
 use Prim.Native.Nat.{ℕ, ◌+◌, ◌*◌, ◌/◌, ◌%◌, ◌<◌}
 use mathlib.Core.Path.{◌≡◌, refl, sym, ap, ◌∙◌}
 use mathlib.Core.Logic.{◌≢◌, ◌↔◌}
@@ -16,7 +17,7 @@ use Rattle.descriptors.specs.declared.descriptor.Descriptor.{Descriptor}
 use Rattle.registers.specs.Unit.{flag, word, ac, for_translation}
 use Rattle.registers.specs.Shared.{entry}
 use Rattle.chip.specs.System.{present, unit, descriptor}
-use Rattle.chip.specs.Search.{matching, near_place, named, told_by, searched}
+use Rattle.chip.specs.Search.{matching, near_place, searched, place}
 use Rattle.chip.specs.Answer.{undefined as undefined_kind, byte_read, values, carrying, named_by, refused, granted}
 use Rattle.chip.specs.Access.{writes, match_at}
 use Rattle.chip.specs.Prepare.{prepare}
@@ -29,12 +30,6 @@ use Rattle.chip.specs.Reason.{Unmatched, Carried, MayCarry}
 use Rattle.chip.specs.Reason as reason
 use Rattle.chip.specs.declared.system.System.{System}
 use Rattle.chip.specs.declared.access.Cycle.{Cycle}
-use Rattle.chip.specs.declared.search.Found.{Found}
-use Rattle.chip.specs.declared.search.Found.TheVariants.{At, Nowhere}
-use Rattle.chip.specs.declared.search.Near.{Near}
-use Rattle.chip.specs.declared.search.Near.TheVariants.{Nothing}
-use Rattle.chip.specs.declared.search.Search.{Search}
-use Rattle.chip.specs.declared.search.Search.TheVariants.{Match, NoMatch}
 use Rattle.chip.specs.declared.register.Register.{Register}
 use Rattle.chip.specs.declared.register.Operation.TheVariants as operation
 use Rattle.chip.specs.declared.answer.Outcome.{Outcome}
@@ -47,13 +42,14 @@ use Rattle.chip.proofs.Once.{matching_found, matching_missed}
 use Rattle.chip.proofs.Near.{near_carried}
 use Rattle.chip.proofs.Steps.{prepare_places}
 use Rattle.chip.proofs.Loading.{prepared, off}
+use Rattle.chip.specs.declared.search.Place.{Place}
 
 -- ---- 4.5.3: a bus access
 
 pub record Reasoned (page number : ℕ) (s : System) (o : Outcome) : Type 0 where
   pub unmatched : (values o.answer).kind ≡ undefined_kind → Unmatched page number s
   pub so_undefined : (values o.answer).number ≡ 0 → Unmatched page number s → (values o.answer).kind ≡ undefined_kind
-  pub whole : (values o.answer).kind ≡ undefined_kind → values o.answer ≡ carrying undefined_kind (named (near_place page number s)) 0
+  pub whole : (values o.answer).kind ≡ undefined_kind → values o.answer ≡ carrying undefined_kind (option_map place (near_place page number s)) 0
 
 module _ (code : ℕ) (cycle : Cycle) (address : ℕ) (s : System) where
   abbrev page : ℕ
@@ -107,15 +103,15 @@ translation_reason m s h us =
     number : ℕ
     number = ac (unit s m) 6
 
-    go : (f : Found) → matching page number s ≡ f
-        → Translated page number s (result_at (told_by f (named (near_place page number s))) (word (unit t m) 0) t)
-    go (At i) e =
+    go : (f : Option ℕ) → matching page number s ≡ f
+        → Translated page number s (result_at (ok_or f (option_map place (near_place page number s))) (word (unit t m) 0) t)
+    go (Some i) e =
         let f = matching_found s page number i e in
         record {
           exactly = (λ q. absurd (omega arith), λ u. absurd (false≢true (sym (u i (omega (arith, f.high))) ∙ f.here)));
           carried = λ q. absurd (omega arith);
         }
-    go Nowhere e = record { exactly = (λ q. matching_missed s page number e, λ u. refl); carried = λ q. near_carried page number s }
+    go None e = record { exactly = (λ q. matching_missed s page number e, λ u. refl); carried = λ q. near_carried page number s }
 
 -- ---- no other answer carries one
 
@@ -124,19 +120,19 @@ record Told (address : ℕ) (r : Reading) : Type 0 where
   where_from : (named_by r.near).2 ≡ true → address ≡ 0x3D
   answers_ff : (named_by r.near).2 ≡ true → r.byte ≡ 0xFF
 
-silent : (address : ℕ) (r : Reading) → r.near ≡ Nothing → Told address r
+silent : (address : ℕ) (r : Reading) → r.near ≡ None → Told address r
 silent address r e =
-    let none : (named_by r.near).2 ≡ false = ap (λ (n : Near). (named_by n).2) e in
+    let none : (named_by r.near).2 ≡ false = ap (λ (n : Option Place). (named_by n).2) e in
     record { where_from = λ q. absurd (false≢true (sym none ∙ q)); answers_ff = λ q. absurd (false≢true (sym none ∙ q)) }
 
-translation_told : (x : Search) (page : ℕ) (s : System) → Told 0x3D (result_at x page s)
+translation_told : (x : Result ℕ (Option Place)) (page : ℕ) (s : System) → Told 0x3D (result_at x page s)
 unfolding result_at
-translation_told (Match i) p s = silent 0x3D _ refl
-translation_told (NoMatch near) p s = record { where_from = λ q. refl; answers_ff = λ q. refl }
+translation_told (Ok i) p s = silent 0x3D _ refl
+translation_told (Err near) p s = record { where_from = λ q. refl; answers_ff = λ q. refl }
 
-load_near : (d : Descriptor) (i : ℕ) (s : System) → (load_at d i s).near ≡ Nothing
+load_near : (d : Descriptor) (i : ℕ) (s : System) → (load_at d i s).near ≡ None
 unfolding load_at
-load_near d i s = either (λ (r : Reading). r.near ≡ Nothing) (collision d (off i s)) (λ e. refl) (λ e. refl)
+load_near d i s = either (λ (r : Reading). r.near ≡ None) (collision d (off i s)) (λ e. refl) (λ e. refl)
 
 read_told : (a m : ℕ) (s : System) → Told a (read (register_at a) m s)
 unfolding register_at read transfer direct_translation load

@@ -6,6 +6,7 @@
 --     performed_clean     so it keeps the clean form
 --     prepare_places      what a load and a direct translation do first changes no descriptor and nothing shared
 -- Assumes nothing.
+use Rattle.std.specs.Prelude.{Option, Some, None, ok_or, option_map}
 use Prim.Native.Nat.{ℕ, ◌*◌, ◌/◌, ◌%◌, ◌^◌, ◌<◌}
 use mathlib.Core.Path.{◌≡◌, refl, sym, ◌∙◌}
 use mathlib.Core.Logic.{◌≢◌}
@@ -32,7 +33,7 @@ use Rattle.registers.specs.declared.unit.Unit.{Unit}
 use Rattle.registers.specs.declared.shared.Board.{Board}
 use Rattle.registers.specs.declared.shared.Shared.{Shared}
 use Rattle.chip.specs.System.{present, unit, descriptor, pointed, with_units, with_shared, with_descriptor, with_unit, in_each, in_all}
-use Rattle.chip.specs.Search.{matching, near_place, named, told_by, searched, in_system, in_unit}
+use Rattle.chip.specs.Search.{matching, near_place, searched, in_system, in_unit, place}
 use Rattle.chip.specs.Answer.{granted, miscounted}
 use Rattle.chip.specs.Reset.{fresh, unselectable}
 use Rattle.chip.specs.Access.{reads_first, writes, touched, touch, read_half, fault, violation, undefined, match_at, translate}
@@ -44,9 +45,6 @@ use Rattle.chip.specs.Register.{register_at, write_gsr, write, read, operate}
 use Rattle.chip.specs.Call.{checks, carried_out, performed}
 use Rattle.chip.specs.Clean.{Clean}
 use Rattle.chip.specs.declared.system.System.{System}
-use Rattle.chip.specs.declared.reset.Selected.{Selected}
-use Rattle.chip.specs.declared.search.Found.{Found}
-use Rattle.chip.specs.declared.search.Found.TheVariants.{At, Nowhere}
 use Rattle.chip.specs.declared.access.Cycle.{Cycle}
 use Rattle.chip.specs.declared.access.Cycle.TheVariants.{Read}
 use Rattle.chip.specs.declared.answer.Reading.{Reading}
@@ -72,7 +70,7 @@ Clear d i s =
 -- accumulator that is
 pub data Steps (s : System) : System → Type 0 where
   stays : Steps s s
-  renewed : (board : Board) (selected : Selected) → miscounted board.count ≡ false → unselectable selected board.count ≡ false
+  renewed : (board : Board) (selected : Option ℕ) → miscounted board.count ≡ false → unselectable selected board.count ≡ false
       → Steps s (fresh board selected)
   units : {t : System} (f : ℕ → Unit → Unit) → ((m : ℕ) (u : Unit) → Becomes u (f m u)) → Steps s t → Steps s (in_each f t)
   turned : {t : System} (reads : Bool) (f : Unit → Unit) → ((u : Unit) → Becomes (with_rw u reads) (f u)) → Steps s t → Steps s (in_all f t)
@@ -182,9 +180,9 @@ no_collision d i t h k l n e f =
     (first_missed (λ k. collides d (descriptor t k)) 0 (32 * present t)
     (nowhere (in_system (collides d) t) (rw e at h)) k (omega arith) (omega arith))
 
-blamed : (f : Found) (u : Unit) → Becomes u (blame f u)
-blamed (At i) u = told LD (i % 32) (lit< tt) (number_clean (i % 32) (omega arith)) same
-blamed Nowhere u = untold same
+blamed : (f : Option ℕ) (u : Unit) → Becomes u (blame f u)
+blamed (Some i) u = told LD (i % 32) (lit< tt) (number_clean (i % 32) (omega arith)) same
+blamed None u = untold same
 
 load_at_steps : (d : Descriptor) (i : ℕ) (s t : System) → CleanDescriptor d → i < 32 * present t → Steps s t
     → Steps s (load_at d i t).system
@@ -222,9 +220,9 @@ translation_steps m s c h = go (matching page number t) refl
     number : ℕ
     number = ac (unit t m) 6
 
-    go : (f : Found) → matching page number t ≡ f → Steps s (result_at (told_by f (named (near_place page number t))) page t).system
-    go Nowhere e = units _ (λ m u. untold same) k
-    go (At i) e =
+    go : (f : Option ℕ) → matching page number t ≡ f → Steps s (result_at (ok_or f (option_map place (near_place page number t))) page t).system
+    go None e = units _ (λ m u. untold same) k
+    go (Some i) e =
         let there : i / 32 < present t = omega (arith, (matching_found t page number i e).high) in
         one_unit (i / 32) _ there
         (told DT (i % 32) (lit< tt) (number_clean (i % 32) (omega arith))

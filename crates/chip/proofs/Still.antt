@@ -2,6 +2,7 @@
 --     Still s t          what is matched in s is matched in t, by the same descriptor
 --     access_answer      so an access of s that is not undefined has the same answer in t
 -- Assumes nothing.
+use Rattle.std.specs.Prelude.{Option, Some, None, Result, ok_or, option_map}
 use Prim.Native.Nat.{ℕ, ◌/◌, ◌%◌, ◌<◌, ◌^◌}
 use mathlib.Core.Path.{◌≡◌, refl, sym, ap, subst}
 use mathlib.Core.Logic.{◌≢◌}
@@ -13,20 +14,18 @@ use Rattle.descriptors.specs.Descriptor.{protected}
 use Rattle.registers.specs.Shared.{entry}
 use Rattle.registers.specs.declared.shared.Shared.{Shared}
 use Rattle.chip.specs.System.{descriptor, with_shared}
-use Rattle.chip.specs.Search.{matching, near_place, named, told_by, searched}
+use Rattle.chip.specs.Search.{matching, near_place, searched, place}
 use Rattle.chip.specs.Answer.{values, refused, granted, checked, undefined}
 use Rattle.chip.specs.Access.{writes, match_at, translate_at, translate}
 use Rattle.chip.specs.Call.{checks, carried_out, performed}
 use Rattle.chip.specs.declared.system.System.{System}
 use Rattle.chip.specs.declared.access.Cycle.{Cycle}
-use Rattle.chip.specs.declared.search.Found.{Found}
-use Rattle.chip.specs.declared.search.Found.TheVariants.{At, Nowhere}
-use Rattle.chip.specs.declared.search.Search.{Search}
 use Rattle.chip.specs.declared.answer.Refusal.{Refusal}
 use Rattle.chip.specs.declared.answer.Answer.{Answer}
 use Rattle.chip.specs.declared.answer.Outcome.{Outcome}
 use Rattle.chip.specs.declared.call.Call.TheVariants as call
 use Rattle.chip.proofs.Checked.{NoneOf}
+use Rattle.chip.specs.declared.search.Place.{Place}
 
 -- what a match answers is read off its descriptor
 either_answer : (b : Bool) (x y : Answer) (s t u v : System)
@@ -43,8 +42,8 @@ answered_alike i cycle page number offset s t e = rw e (either_answer (writes cy
 -- what was matched is matched
 abbrev pub Still : System → System → Type 0
 Still s t =
-    (page number i : ℕ) → page < 2 ^ 16 → number < 2 ^ 8 → matching page number s ≡ At i
-    → (matching page number t ≡ At i) × (descriptor t i ≡ descriptor s i)
+    (page number i : ℕ) → page < 2 ^ 16 → number < 2 ^ 8 → matching page number s ≡ Some i
+    → (matching page number t ≡ Some i) × (descriptor t i ≡ descriptor s i)
 
 abbrev pub Defined : Answer → Type 0
 Defined a = (values a).kind ≢ undefined
@@ -63,16 +62,16 @@ translate_answer code cycle address s t same still a n =
     number : ℕ
     number = entry s.shared code
 
-    found_at : Found → Search
-    found_at f = told_by f (named (near_place page number s))
+    found_at : Option ℕ → Result ℕ (Option Place)
+    found_at f = ok_or f (option_map place (near_place page number s))
 
-    go : (f : Found) → matching page number s ≡ f → Defined (translate_at (found_at f) cycle page number (address % 256) s).answer
+    go : (f : Option ℕ) → matching page number s ≡ f → Defined (translate_at (found_at f) cycle page number (address % 256) s).answer
         → (translate_at (searched page number t) cycle page number (address % 256) t).answer
         ≡ (translate_at (found_at f) cycle page number (address % 256) s).answer
-    go (At i) e d =
+    go (Some i) e d =
         let k = still page number i (omega arith) n e in
         rw k.0 (answered_alike i cycle page number (address % 256) s t k.1)
-    go Nowhere e d = absurd (d refl)
+    go None e d = absurd (d refl)
 
 checked_answer : (cs : List (Refusal × Bool)) (s t : System) (o p : Outcome)
     → (NoneOf cs → Defined o.answer → p.answer ≡ o.answer) → Defined (checked cs s o).answer

@@ -3,6 +3,7 @@
 --     steps_turned          after any steps
 --     performed_turned      so after any call
 -- Assumes nothing.
+use Rattle.std.specs.Prelude.{Option, Some, None}
 use Prim.Native.Nat.{ℕ, ◌^◌, ◌<◌}
 use mathlib.Core.Path.{◌≡◌, refl, sym, ◌∙◌}
 use mathlib.Core.Bool.{Bool}
@@ -18,8 +19,6 @@ use Rattle.chip.specs.Reset.{blank, uninitialized, nothing, unselected, fresh}
 use Rattle.chip.specs.Call.{performed}
 use Rattle.chip.specs.Clean.{Clean}
 use Rattle.chip.specs.declared.system.System.{System}
-use Rattle.chip.specs.declared.reset.Selected.{Selected}
-use Rattle.chip.specs.declared.reset.Selected.TheVariants as selected
 use Rattle.chip.specs.declared.call.Call.{Call}
 use Rattle.chip.proofs.Parts.{each_unit}
 use Rattle.chip.proofs.Steps.{Steps, stays, renewed, units, turned, global, one_unit, shared, status, loaded, steps_clean, bus, performed_steps}
@@ -39,9 +38,9 @@ module _ (s : System) (six : length s.units ≡ 6) where
   all_turned reads f h m k hm hk =
       rw (each_unit s (λ m. f) m hm (omega arith), each_unit s (λ m. f) k hk (omega arith)) (h (unit s m) ∙ sym (h (unit s k)))
 
-fresh_turned : (board : Board) (selected : Selected) → Turned (fresh board selected)
+fresh_turned : (board : Board) (selected : Option ℕ) → Turned (fresh board selected)
 unfolding fresh unselected Turned with_shared with_descriptor
-fresh_turned board = elim [ selected.Nobody ↦ cleared | selected.Unit m ↦ cleared ]
+fresh_turned board = elim [ None ↦ cleared | Some m ↦ cleared ]
   where
     cleared : Turned (unselected board)
     cleared =

@@ -1,19 +1,18 @@
 -- A bus access, the normal address translation: handbook 4.5.3.
-use Rattle.std.specs.Prelude.{ℕ, ◌+◌, ◌*◌, ◌/◌, ◌%◌, Bool, true, false, ◌&&◌, cond}
+use Rattle.std.specs.Prelude.{ℕ, ◌+◌, ◌*◌, ◌/◌, ◌%◌, Bool, true, false, ◌&&◌, cond, Option, Result, Ok, Err}
 use Rattle.descriptors.specs.Status.{used, modified}
 use Rattle.descriptors.specs.Descriptor.{protected, physical_page, with_ssr}
 use Rattle.registers.specs.Unit.{NO, USA, WV, none, latch, report, with_rw}
 use Rattle.registers.specs.Shared.{entry, faulted, with_gsr}
 use Rattle.chip.specs.System.{unit, descriptor, with_descriptor, with_unit, with_shared, in_all}
-use Rattle.chip.specs.Search.{searched}
+use Rattle.chip.specs.Search.{place, searched}
 use Rattle.chip.specs.Answer.{granted}
 use Rattle.chip.specs.declared.system.System.{System}
-use Rattle.chip.specs.declared.search.Search.{Search}
-use Rattle.chip.specs.declared.search.Search.TheVariants.{Match, NoMatch}
 use Rattle.chip.specs.declared.access.Cycle.{Cycle}
 use Rattle.chip.specs.declared.access.Cycle.TheVariants.{Read, Write, ReadModifyWrite}
 use Rattle.chip.specs.declared.answer.Answer.TheVariants.{Mapped, Violation, Undefined}
 use Rattle.chip.specs.declared.answer.Outcome.{Outcome}
+use Rattle.chip.specs.declared.search.Place.{Place}
 
 -- R/W as the cycle begins: high for a read, and for a read-modify-write, in which it falls later (4.5.3.2, item 3)
 abbrev pub reads_first : Cycle → Bool
@@ -60,16 +59,14 @@ undefined cycle page number s = in_all (report USA none) (in_all (latch page num
 unfoldable pub match_at : (i : ℕ) → Cycle → (page number offset : ℕ) → System → Outcome
 match_at i cycle page number offset s =
     let d = descriptor s i in
-    let m = i / 32 in
-    let n = i % 32 in
     cond (writes cycle && protected d)
-    (granted (Violation m n true) (violation page number m n (read_half cycle i s)))
-    (granted (Mapped (256 * physical_page d page + offset) m n (protected d)) (touch cycle i s))
+    (granted (Violation (place i) true) (violation page number (i / 32) (i % 32) (read_half cycle i s)))
+    (granted (Mapped (256 * physical_page d page + offset) (place i) (protected d)) (touch cycle i s))
 
 -- the undefined answer carries the descriptor that is near (document 02, P4)
-unfoldable pub translate_at : Search → Cycle → (page number offset : ℕ) → System → Outcome
-translate_at (Match i) cycle page number offset s = match_at i cycle page number offset s
-translate_at (NoMatch near) cycle page number offset s = granted (Undefined near) (undefined cycle page number s)
+unfoldable pub translate_at : Result ℕ (Option Place) → Cycle → (page number offset : ℕ) → System → Outcome
+translate_at (Ok i) cycle page number offset s = match_at i cycle page number offset s
+translate_at (Err near) cycle page number offset s = granted (Undefined near) (undefined cycle page number s)
 
 -- 4.5.3: the function code selects the cycle address space number; the low eight address bits pass
 unfoldable pub translate : (code : ℕ) → Cycle → (address : ℕ) → System → Outcome

@@ -1,9 +1,7 @@
 -- The answers, and document 01's number and values for each: "Numbers the host gets back".
-use Rattle.std.specs.Prelude.{ℕ, Bool, true, false, not, ◌||◌, cond, List, [], ◌∷◌, map, eqb, ltb}
+use Rattle.std.specs.Prelude.{ℕ, Bool, true, false, not, ◌||◌, cond, List, [], ◌∷◌, map, eqb, ltb, Option, Some, None, Result, Ok, Err, ⊤}
 use Rattle.chip.specs.Search.{irq}
 use Rattle.chip.specs.declared.system.System.{System}
-use Rattle.chip.specs.declared.search.Near.{Near}
-use Rattle.chip.specs.declared.search.Near.TheVariants.{Place, Nothing}
 use Rattle.chip.specs.declared.answer.Refusal.{Refusal}
 use Rattle.chip.specs.declared.answer.Refusal.TheVariants.{Count, Unit, Register, FunctionCode, Address, Interrupt}
 use Rattle.chip.specs.declared.answer.Answer.{Answer}
@@ -11,6 +9,7 @@ use Rattle.chip.specs.declared.answer.Answer.TheVariants.{Refused, Done, Byte, M
 use Rattle.chip.specs.declared.answer.Values.{Values}
 use Rattle.chip.specs.declared.answer.Outcome.{Outcome}
 use Rattle.chip.specs.declared.answer.Reading.{Reading}
+use Rattle.chip.specs.declared.search.Place.{Place}
 
 -- the number of a refusal
 abbrev pub number : Refusal → ℕ
@@ -47,12 +46,16 @@ row number kind address unit descriptor win near byte =
 abbrev pub of_kind : (kind : ℕ) → Values
 of_kind kind = row 0 kind 0 0 0 false false 0
 
--- document 02, P4: the unit and the descriptor that are near, and whether there is one; and an answer of this kind that carries them
-abbrev pub named_by : Near → ℕ × ℕ × Bool
-named_by (Place unit descriptor) = (unit, descriptor, true)
-named_by Nothing = (0, 0, false)
+-- and this unit and descriptor
+abbrev pub at_place : (kind : ℕ) → Place → Values
+at_place kind place = row 0 kind 0 place.unit place.descriptor false false 0
 
-abbrev pub carrying : (kind : ℕ) → Near → (byte : ℕ) → Values
+-- document 02, P4: the unit and the descriptor that are near, and whether there is one; and an answer of this kind that carries them
+abbrev pub named_by : Option Place → ℕ × ℕ × Bool
+named_by (Some place) = (place.unit, place.descriptor, true)
+named_by None = (0, 0, false)
+
+abbrev pub carrying : (kind : ℕ) → Option Place → (byte : ℕ) → Values
 carrying kind near byte = let n = named_by near in row 0 kind 0 n.0 n.1 false n.2 byte
 
 -- The table: the number of the refusal or zero, the kind, and the values of an answer; what a kind does not have is zero.
@@ -60,8 +63,8 @@ abbrev pub values : Answer → Values
 values (Refused r) = row (number r) 0 0 0 0 false false 0
 values Done = of_kind done
 values (Byte b near) = carrying byte_read near b
-values (Mapped a u d w) = row 0 mapped a u d w false 0
-values (Violation u d w) = row 0 violating 0 u d w false 0
+values (Mapped a p w) = row 0 mapped a p.unit p.descriptor w false 0
+values (Violation p w) = row 0 violating 0 p.unit p.descriptor w false 0
 values (Undefined near) = carrying undefined near 0
 
 -- a refusal: every other field is zero, the state is unchanged
@@ -74,13 +77,18 @@ granted a s = record { answer = a; irq = irq s; system = s }
 
 -- a read that answers this byte and leaves this system; no reason goes with it
 abbrev pub reading : (byte : ℕ) → System → Reading
-reading byte s = record { byte = byte; near = Nothing; system = s }
+reading byte s = record { byte = byte; near = None; system = s }
 
 -- the checks of a call in their order, each a refusal and when it is given: the first that applies
 -- decides, and where none does the call goes on
 abbrev pub checked : List (Refusal × Bool) → System → Outcome → Outcome
 checked [] s o = o
 checked (c ∷ cs) s o = cond c.1 (refused c.0 s) (checked cs s o)
+
+-- which refusal that is, if any
+abbrev pub decided : List (Refusal × Bool) → Result ⊤ Refusal
+decided [] = Ok tt
+decided (c ∷ cs) = cond c.1 (Err c.0) (decided cs)
 
 -- a table of refusals by number, each with when it is given: the first that applies, or zero
 abbrev pub first_of : (rows : List (ℕ × Bool)) → ℕ

@@ -1,6 +1,6 @@
 -- The calls that a host can make, by name: document 01, "What the model covers". Each has its checks, and what it does where none
 -- of them applies.
-use Rattle.std.specs.Prelude.{Bool, not, List, [], ◌∷◌, ltb}
+use Rattle.std.specs.Prelude.{Bool, not, List, [], ◌∷◌, ltb, None}
 use Rattle.registers.specs.Shared.{board}
 use Rattle.chip.specs.Search.{irq}
 use Rattle.chip.specs.Answer.{granted, checked, miscounted, absent}
@@ -8,7 +8,6 @@ use Rattle.chip.specs.Reset.{unselectable, fresh}
 use Rattle.chip.specs.Access.{translate}
 use Rattle.chip.specs.Register.{register_at, operate}
 use Rattle.chip.specs.declared.system.System.{System}
-use Rattle.chip.specs.declared.search.Near.TheVariants.{Nothing}
 use Rattle.chip.specs.declared.answer.Refusal.{Refusal}
 use Rattle.chip.specs.declared.answer.Refusal.TheVariants as refusal
 use Rattle.chip.specs.declared.answer.Answer.TheVariants.{Done, Byte}
@@ -35,7 +34,7 @@ carried_out (Start count selected) s = granted Done (fresh (board count) selecte
 carried_out (Reset selected) s = granted Done (fresh s.shared.board selected)
 carried_out (Access code cycle address) s = translate code cycle address s
 carried_out (Register unit address operation) s = operate operation (register_at address) unit s
-carried_out (Acknowledge unit) s = granted (Byte s.shared.ivr Nothing) s
+carried_out (Acknowledge unit) s = granted (Byte s.shared.ivr None) s
 
 unfoldable pub performed : Call → System → Outcome
 performed c s = checked (checks c s) s (carried_out c s)

@@ -1,6 +1,6 @@
 -- The twelve worked cases: handbook Figure 6-1 and its neighbours, as document 01 numbers them. They go
 -- through the calls that a host makes: start, register writes and reads, bus accesses.
-use Rattle.std.specs.Prelude.{ℕ, ◌+◌, Bool, true, ◌&&◌, List, [], ◌∷◌, ◌++◌, eqb}
+use Rattle.std.specs.Prelude.{ℕ, ◌+◌, Bool, true, ◌&&◌, List, [], ◌∷◌, ◌++◌, eqb, Option, Some, None}
 use Rattle.descriptors.specs.Descriptor.{bytes}
 use Rattle.registers.specs.Shared.{board}
 use Rattle.chip.specs.Answer.{done, byte_read, mapped, undefined, values}
@@ -8,8 +8,6 @@ use Rattle.chip.specs.Reset.{unselected}
 use Rattle.chip.specs.Call.{performed}
 use Rattle.descriptors.specs.declared.descriptor.Descriptor.{Descriptor}
 use Rattle.chip.specs.declared.system.System.{System}
-use Rattle.chip.specs.declared.reset.Selected.{Selected}
-use Rattle.chip.specs.declared.reset.Selected.TheVariants as selected
 use Rattle.chip.specs.declared.access.Cycle.TheVariants as cycle
 use Rattle.chip.specs.declared.register.Operation.TheVariants.{Read, Write}
 use Rattle.chip.specs.declared.call.Call.TheVariants.{Start, Access, Register}
@@ -90,14 +88,14 @@ one_bit lba lam = segment lba lam 0x0000 0x00 0xFF
 
 -- A case: the unit that is selected at start, and the steps.
 pub record Case : Type 0 where
-  pub unit : Selected
+  pub unit : Option ℕ
   pub steps : List Step
 
 abbrev pub selecting : List Step → Case
-selecting steps = record { unit = selected.Unit 0; steps = steps }
+selecting steps = record { unit = Some 0; steps = steps }
 
 abbrev pub unselecting : List Step → Case
-unselecting steps = record { unit = selected.Nobody; steps = steps }
+unselecting steps = record { unit = None; steps = steps }
 
 -- the segment, where it is the only one, maps the address
 abbrev pub alone : Descriptor → (number address physical : ℕ) → Case

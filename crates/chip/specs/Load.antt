@@ -1,22 +1,20 @@
 -- Load descriptor: handbook 4.6.3.2.
-use Rattle.std.specs.Prelude.{ℕ, ◌*◌, ◌%◌, ◌^◌, ◌<◌, ◌≡◌, ◌≢◌, Bool, true, ◌&&◌, cond}
+use Rattle.std.specs.Prelude.{ℕ, ◌*◌, ◌%◌, ◌^◌, ◌<◌, ◌≡◌, ◌≢◌, Bool, true, ◌&&◌, cond, Option, Some, None, is_some}
 use Rattle.descriptors.specs.Descriptor.{enabled, matches, collides, disable}
 use Rattle.registers.specs.Unit.{NO, LD, none, report, for_load, segment}
 use Rattle.chip.specs.System.{present, unit, descriptor, pointed, with_descriptor, in_each, in_all}
-use Rattle.chip.specs.Search.{found, in_system, in_unit}
+use Rattle.chip.specs.Search.{in_system, in_unit}
 use Rattle.chip.specs.Answer.{reading}
 use Rattle.chip.specs.Prepare.{prepare}
 use Rattle.descriptors.specs.declared.descriptor.Descriptor.{Descriptor}
 use Rattle.registers.specs.declared.unit.Unit.{Unit}
 use Rattle.chip.specs.declared.system.System.{System}
-use Rattle.chip.specs.declared.search.Found.{Found}
-use Rattle.chip.specs.declared.search.Found.TheVariants.{At, Nowhere}
 use Rattle.chip.specs.declared.answer.Reading.{Reading}
 
 -- a unit's part in a refused load: LD and the descriptor that it collides with, or none
-abbrev pub blame : Found → Unit → Unit
-blame (At i) u = report LD (i % 32) u
-blame Nowhere u = report NO none u
+abbrev pub blame : Option ℕ → Unit → Unit
+blame (Some i) u = report LD (i % 32) u
+blame None u = report NO none u
 
 -- d, about to be loaded into place i, collides with the enabled descriptor at another place k: some page and some number exist
 -- that both match
@@ -31,7 +29,7 @@ Collision d i s = (k : ℕ) × (k < 32 * present s) × CollidesWith d i k s
 
 -- the load is refused: d asks to be enabled, and some enabled descriptor collides with it
 abbrev pub collision : Descriptor → System → Bool
-collision d s = enabled d && found (in_system (collides d) s)
+collision d s = enabled d && is_some (in_system (collides d) s)
 
 -- the segment d for place i, once descriptor i is disabled and cannot cause a collision
 unfoldable pub load_at : (d : Descriptor) (i : ℕ) → System → Reading

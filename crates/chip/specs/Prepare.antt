@@ -1,13 +1,13 @@
 -- What a load and a direct translation do first: the accumulator is made globally consistent, handbook 3.2.4 and 4.6.3.
-use Rattle.std.specs.Prelude.{ℕ, Bool, not, cond, List, [], ◌∷◌}
+use Rattle.std.specs.Prelude.{ℕ, Bool, not, cond, List, [], ◌∷◌, is_some}
 use Rattle.registers.specs.Unit.{ac, write_ac, consistent}
 use Rattle.chip.specs.System.{present, unit, in_all}
-use Rattle.chip.specs.Search.{first, found}
+use Rattle.chip.specs.Search.{first}
 use Rattle.chip.specs.declared.system.System.{System}
 
 -- 3.2.4: some unit's accumulator is not globally consistent in these bytes
 abbrev pub inconsistent : List ℕ → System → Bool
-inconsistent bytes s = found (first (λ m. not (consistent bytes (unit s m))) 0 (present s))
+inconsistent bytes s = is_some (first (λ m. not (consistent bytes (unit s m))) 0 (present s))
 
 -- AC i of unit m goes to all units, as by a global write
 unfoldable pub send : (i m : ℕ) → System → System

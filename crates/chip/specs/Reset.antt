@@ -1,5 +1,5 @@
 -- Start and reset: handbook 4.5.1.
-use Rattle.std.specs.Prelude.{ℕ, ◌*◌, Bool, false, replicate}
+use Rattle.std.specs.Prelude.{ℕ, ◌*◌, Bool, false, replicate, Option, Some, None}
 use Rattle.descriptors.specs.Descriptor.{zeros}
 use Rattle.registers.specs.Unit.{NO, none, local, report}
 use Rattle.chip.specs.System.{with_descriptor, with_shared, in_all}
@@ -10,8 +10,6 @@ use Rattle.registers.specs.Shared.{board}
 use Rattle.registers.specs.declared.shared.Board.{Board}
 use Rattle.registers.specs.declared.shared.Shared.{Shared}
 use Rattle.chip.specs.declared.system.System.{System}
-use Rattle.chip.specs.declared.reset.Selected.{Selected}
-use Rattle.chip.specs.declared.reset.Selected.TheVariants as selected
 
 -- accumulator, marks, DP and LSR zero
 abbrev pub blank : Unit
@@ -38,11 +36,11 @@ abbrev pub identity : Descriptor
 identity = record { lba = 0; lam = 0; pba = 0; asn = 0; ssr = 0x01; asm = 0xFF }
 
 -- the system after reset
-unfoldable pub fresh : Board → Selected → System
-fresh b selected.Nobody = unselected b
-fresh b (selected.Unit m) = with_descriptor (unselected b) (32 * m) identity
+unfoldable pub fresh : Board → Option ℕ → System
+fresh b None = unselected b
+fresh b (Some m) = with_descriptor (unselected b) (32 * m) identity
 
 -- 2, at start and reset: "none" is allowed
-abbrev pub unselectable : Selected → (count : ℕ) → Bool
-unselectable selected.Nobody count = false
-unselectable (selected.Unit m) count = absent m count
+abbrev pub unselectable : Option ℕ → (count : ℕ) → Bool
+unselectable None count = false
+unselectable (Some m) count = absent m count

@@ -1,15 +1,12 @@
 // A bus access: normal address translation, and the two faults (handbook 4.5.3).
-ghost use Rattle.std.specs.Prelude.{◌≡◌, ◌+◌, ◌*◌, ◌<◌};
+ghost use Rattle.std.specs.Prelude.{◌≡◌, ◌+◌, ◌*◌, ◌<◌, ◌^◌};
 ghost use Rattle.chip.specs.Access.{reads_first, writes, touched, read_half, fault, violation, undefined, match_at, translate_at, translate};
-ghost use Rattle.chip.specs.Answer.{checked};
-ghost use Rattle.chip.specs.Call.{checks};
-ghost use Rattle.chip.specs.declared.call.Call.TheVariants.{Access};
 ghost use Rattle.chip.specs.Search.{Located};
 
-use crate::answer;
-use crate::answer::{Answer, Outcome, Refusal};
-use crate::search::Search;
-use crate::system::System;
+use crate::answer::{Answer, Outcome};
+use crate::search::Place;
+use crate::system::{PlaceIndex, System, UnitIndex};
+use descriptors::descriptor::Logical;
 use descriptors::status;
 use registers::unit;
 use registers::unit::Change;
@@ -27,21 +24,13 @@ impl Cycle {
     fn reads_first(self) -> bool
         ensures { result ≡ reads_first self }
     {
-        match self {
-            Cycle::Read => true,
-            Cycle::Write => false,
-            Cycle::ReadModifyWrite => true,
-        }
+        matches!(self, Cycle::Read | Cycle::ReadModifyWrite)
     }
 
     fn writes(self) -> bool
         ensures { result ≡ writes self }
     {
-        match self {
-            Cycle::Read => false,
-            Cycle::Write => true,
-            Cycle::ReadModifyWrite => true,
-        }
+        matches!(self, Cycle::Write | Cycle::ReadModifyWrite)
     }
 
     // 4.5.3.2: the status of the segment that was used.
@@ -65,6 +54,7 @@ fn physical(page: u16, offset: u8) -> u32
 
 impl System {
     // 3.2.3, 3.2.4: what both faults do in every unit.
+    #[tactic(auto, unfolding(crate::specs::Access::fault))]
     fn fault(self, rw: bool) -> System
         ensures { result ≡ fault rw self }
     {
@@ -74,109 +64,97 @@ impl System {
     }
 
     // 4.5.3.3 in the unit that matches, 4.5.3.6 in the others.
-    fn violation(self, page: u16, number: u8, m: usize, n: u8) -> System
-        requires { m < 6 }
-        ensures { result ≡ violation page number m n self }
+    #[tactic(auto, unfolding(crate::specs::Access::violation))]
+    fn violation(self, logical: Logical, m: UnitIndex, n: u8) -> System
+        ensures { result ≡ violation logical.page logical.number m.value n self }
     {
         let t = self
             .fault(false)
             .in_all(Change::Report(unit::NO, unit::NONE));
         let unit = t
             .unit(m)
-            .change(Change::Latch(page, number))
+            .change(Change::Latch(logical))
             .change(Change::Report(unit::WV, n));
         t.with_unit(m, unit)
     }
 
     // 4.5.3.7.
-    fn undefined(self, cycle: Cycle, page: u16, number: u8) -> System
-        ensures { result ≡ undefined cycle page number self }
+    #[tactic(auto, unfolding(crate::specs::Access::undefined))]
+    fn undefined(self, cycle: Cycle, logical: Logical) -> System
+        ensures { result ≡ undefined cycle logical.page logical.number self }
     {
         self.fault(cycle.reads_first())
-            .in_all(Change::Latch(page, number))
+            .in_all(Change::Latch(logical))
             .in_all(Change::Report(unit::USA, unit::NONE))
     }
 
     // 4.5.3.2, item 3: what is done before R/W falls.
-    fn read_half(mut self, i: usize, cycle: Cycle) -> System
-        requires { i < 192 }
-        ensures { result ≡ read_half cycle i self }
+    #[tactic(auto, unfolding(crate::specs::Access::read_half, crate::specs::System::with_descriptor))]
+    fn read_half(mut self, i: PlaceIndex, cycle: Cycle) -> System
+        ensures { result ≡ read_half cycle i.value self }
     {
         if cycle.reads_first() {
-            let d = self.descriptors[i];
-            self.descriptors[i] = d.with_ssr(Cycle::Read.touched(d.ssr));
+            let d = self.descriptors[i.value];
+            self.descriptors[i.value] = d.with_ssr(Cycle::Read.touched(d.ssr));
         }
         self
     }
 
     // 4.5.3.2, or a violation. The system is changed where it stands, and handed on once.
-    fn match_at(mut self, i: usize, cycle: Cycle, page: u16, number: u8, offset: u8) -> Outcome
-        requires { i < 192 }
-        ensures { result ≡ match_at i cycle page number offset self }
+    #[tactic(auto, unfolding(crate::specs::Access::match_at, crate::specs::System::with_descriptor))]
+    fn match_at(mut self, i: PlaceIndex, cycle: Cycle, logical: Logical, offset: u8) -> Outcome
+        ensures { result ≡ match_at i.value cycle logical.page logical.number offset self }
     {
-        let d = self.descriptors[i];
-        let unit = (i / 32) as u8;
-        let descriptor = (i % 32) as u8;
+        let d = self.descriptors[i.value];
+        let place = i.place();
         let win = d.protected();
-        let mut answer = Answer::Violation {
-            unit,
-            descriptor,
-            win: true,
-        };
+        let mut answer = Answer::Violation { place, win: true };
         if cycle.writes() & win {
             self = self
                 .read_half(i, cycle)
-                .violation(page, number, i / 32, descriptor);
+                .violation(logical, i.unit(), place.descriptor);
         } else {
             answer = Answer::Mapped {
-                address: physical(d.physical_page(page), offset),
-                unit,
-                descriptor,
+                address: physical(d.physical_page(logical.page), offset),
+                place,
                 win,
             };
-            self.descriptors[i] = d.with_ssr(cycle.touched(d.ssr));
+            self.descriptors[i.value] = d.with_ssr(cycle.touched(d.ssr));
         }
         self.granted(answer)
     }
 
     // 4.5.3, once the match is sought.
+    #[tactic(auto, unfolding(crate::specs::Access::translate_at))]
     fn translate_at(
         self,
-        search: Search,
+        search: Result<usize, Option<Place>>,
         cycle: Cycle,
-        page: u16,
-        number: u8,
+        logical: Logical,
         offset: u8,
     ) -> Outcome
         requires { Located search }
-        ensures { result ≡ translate_at search cycle page number offset self }
+        ensures { result ≡ translate_at search cycle logical.page logical.number offset self }
     {
         match search {
-            Search::Match(i) => self.match_at(i, cycle, page, number, offset),
-            Search::NoMatch(near) => self
-                .undefined(cycle, page, number)
+            Ok(i) => self.match_at(PlaceIndex { value: i }, cycle, logical, offset),
+            Err(near) => self
+                .undefined(cycle, logical)
                 .granted(Answer::Undefined(near)),
         }
     }
 
-    // One bus access; refusals 1, 4 and 5.
-    pub(crate) fn access(self, function_code: u64, cycle: Cycle, address: u64) -> Outcome
-        ensures { result ≡ checked (checks (Access function_code cycle address) self) self (translate function_code cycle address self) }
+    // One bus access: the function code selects the number, and the low eight address bits pass.
+    #[tactic(auto, using(crate::proofs::Near::searched_located), unfolding(crate::specs::Access::translate))]
+    pub(crate) fn translate(self, function_code: u64, cycle: Cycle, address: u64) -> Outcome
+        requires { address < 2 ^ 24 }
+        ensures { result ≡ translate function_code cycle address self }
     {
-        let count = self.shared.board.count;
-        if answer::miscounted(count) {
-            return self.refused(Refusal::Count);
-        }
-        if function_code > 15 {
-            return self.refused(Refusal::FunctionCode);
-        }
-        if address > 0xFF_FFFF {
-            return self.refused(Refusal::Address);
-        }
-        let page = (address / 256) as u16;
+        let logical = Logical {
+            page: (address / 256) as u16,
+            number: self.shared.entry(function_code as usize),
+        };
         let offset = (address % 256) as u8;
-        let number = self.shared.entry(function_code as usize);
-        let search = self.search(page, number);
-        self.translate_at(search, cycle, page, number, offset)
+        self.translate_at(self.search(logical), cycle, logical, offset)
     }
 }

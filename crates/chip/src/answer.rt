@@ -1,19 +1,19 @@
 // The answers, and document 01's number and values for each.
-ghost use Rattle.std.specs.Prelude.{◌≡◌};
-ghost use Rattle.chip.specs.Answer.{number, of_kind, carrying, values, refused, granted, reading, miscounted};
+ghost use Rattle.std.specs.Prelude.{◌≡◌, [], ◌∷◌};
+ghost use Rattle.chip.specs.Answer.{number, of_kind, at_place, carrying, values, refused, granted, reading, miscounted, decided};
 
-use crate::search::Near;
+use crate::search::Place;
 use crate::system::System;
 
 // What a host gets back in place of an answer.
 #[derive(Clone, Copy)]
 pub enum Refusal {
-    Count,
-    Unit,
-    Register,
-    FunctionCode,
-    Address,
-    Interrupt,
+    Count = 1,
+    Unit = 2,
+    Register = 3,
+    FunctionCode = 4,
+    Address = 5,
+    Interrupt = 6,
 }
 
 #[derive(Clone, Copy)]
@@ -22,23 +22,21 @@ pub enum Answer {
     Done,
     Byte {
         byte: u8,
-        near: Near,
+        near: Option<Place>,
     },
     Mapped {
         address: u32,
-        unit: u8,
-        descriptor: u8,
+        place: Place,
         win: bool,
     },
     Violation {
-        unit: u8,
-        descriptor: u8,
+        place: Place,
         win: bool,
     },
-    Undefined(Near),
+    Undefined(Option<Place>),
 }
 
-// The kinds of an answer that is no refusal.
+// The kinds of an answer that is no refusal. Numbers, and no enum: they are a field of what a C host gets.
 pub const DONE: u8 = 1;
 
 pub const BYTE: u8 = 2;
@@ -49,7 +47,8 @@ pub const VIOLATION: u8 = 4;
 
 pub const UNDEFINED: u8 = 5;
 
-// An answer as numbers: what a kind of answer does not have is zero.
+// An answer as numbers: what a kind of answer does not have is zero. Near is a flag with unit and descriptor beside it, and no
+// `Option`, since a C host reads each from bits of its own.
 #[derive(Clone, Copy)]
 pub struct Values {
     pub number: u8,
@@ -75,21 +74,14 @@ pub struct Outcome {
 pub struct Reading {
     pub system: System,
     pub byte: u8,
-    pub near: Near,
+    pub near: Option<Place>,
 }
 
 impl Refusal {
-    fn number(self) -> u8
+    pub fn number(self) -> u8
         ensures { result ≡ number self }
     {
-        match self {
-            Refusal::Count => 1,
-            Refusal::Unit => 2,
-            Refusal::Register => 3,
-            Refusal::FunctionCode => 4,
-            Refusal::Address => 5,
-            Refusal::Interrupt => 6,
-        }
+        self as u8
     }
 }
 
@@ -110,19 +102,27 @@ impl Values {
         }
     }
 
-    // And the unit and the descriptor that are near, if any are (document 02, P4).
-    fn carrying(kind: u8, near: Near) -> Values
+    // And this unit and descriptor.
+    fn at(kind: u8, place: Place) -> Values
+        ensures { result ≡ at_place kind place }
+    {
+        Values {
+            unit: place.unit,
+            descriptor: place.descriptor,
+            ..Values::of(kind)
+        }
+    }
+
+    // And those that are near, if any are (document 02, P4).
+    fn carrying(kind: u8, near: Option<Place>) -> Values
         ensures { result ≡ carrying kind near 0 }
     {
-        let mut values = Values::of(kind);
         match near {
-            Near::Place { unit, descriptor } => {
-                values.unit = unit;
-                values.descriptor = descriptor;
-                values.near = true;
-                values
-            }
-            Near::Nothing => values,
+            Some(place) => Values {
+                near: true,
+                ..Values::at(kind, place)
+            },
+            None => Values::of(kind),
         }
     }
 }
@@ -132,44 +132,38 @@ impl Answer {
         ensures { result ≡ values self }
     {
         match self {
-            Answer::Refused(refusal) => {
-                let mut values = Values::of(0);
-                values.number = refusal.number();
-                values
-            }
+            Answer::Refused(refusal) => Values {
+                number: refusal.number(),
+                ..Values::of(0)
+            },
             Answer::Done => Values::of(DONE),
-            Answer::Byte { byte, near } => {
-                let mut values = Values::carrying(BYTE, near);
-                values.byte = byte;
-                values
-            }
+            Answer::Byte { byte, near } => Values {
+                byte,
+                ..Values::carrying(BYTE, near)
+            },
             Answer::Mapped {
                 address,
-                unit,
-                descriptor,
+                place,
                 win,
-            } => {
-                let mut values = Values::of(MAPPED);
-                values.address = address;
-                values.unit = unit;
-                values.descriptor = descriptor;
-                values.win = win;
-                values
-            }
-            Answer::Violation {
-                unit,
-                descriptor,
+            } => Values {
+                address,
                 win,
-            } => {
-                let mut values = Values::of(VIOLATION);
-                values.unit = unit;
-                values.descriptor = descriptor;
-                values.win = win;
-                values
-            }
+                ..Values::at(MAPPED, place)
+            },
+            Answer::Violation { place, win } => Values {
+                win,
+                ..Values::at(VIOLATION, place)
+            },
             Answer::Undefined(near) => Values::carrying(UNDEFINED, near),
         }
     }
+}
+
+// A check: the refusal where it applies.
+pub(crate) fn refuse(refusal: Refusal, applies: bool) -> Result<(), Refusal>
+    ensures { result ≡ decided ((refusal, applies) ∷ []) }
+{
+    if applies { Err(refusal) } else { Ok(()) }
 }
 
 // Refusal 1.
@@ -180,6 +174,7 @@ pub fn miscounted(count: usize) -> bool
 }
 
 impl System {
+    #[tactic(auto, unfolding(crate::specs::Answer::refused))]
     pub(crate) fn refused(self, refusal: Refusal) -> Outcome
         ensures { result ≡ refused refusal self }
     {
@@ -190,6 +185,7 @@ impl System {
         }
     }
 
+    #[tactic(auto, unfolding(crate::specs::Answer::granted))]
     pub fn granted(self, answer: Answer) -> Outcome
         ensures { result ≡ granted answer self }
     {
@@ -205,7 +201,7 @@ impl System {
     {
         Reading {
             byte,
-            near: Near::Nothing,
+            near: None,
             system: self,
         }
     }

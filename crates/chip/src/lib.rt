@@ -1,7 +1,6 @@
 #![tactic(auto)]
 
 pub mod access;
-pub mod acknowledge;
 pub mod answer;
 pub mod call;
 pub mod load;

@@ -3,7 +3,7 @@ ghost use Rattle.std.specs.Prelude.{◌≡◌, ◌<◌};
 ghost use Rattle.registers.specs.Unit.{needed};
 ghost use Rattle.chip.specs.Prepare.{inconsistent, send, prepare};
 
-use crate::system::System;
+use crate::system::{System, UnitIndex};
 use registers::unit::{Bytes, Change};
 
 impl System {
@@ -12,27 +12,21 @@ impl System {
         ensures { result ≡ inconsistent (needed bytes) self }
     {
         let n = self.present();
-        for m in 0..n {
-            let unit = self.units[m];
-            if !unit.consistent(bytes) {
-                return true;
-            }
-        }
-        false
+        self.units[..n].iter().any(|unit| !unit.consistent(bytes))
     }
 
     // One byte of unit m's accumulator goes to all units, as by a global write.
-    fn send(self, i: usize, m: usize) -> System
-        requires { m < 6 }
-        ensures { result ≡ send i m self }
+    #[tactic(auto, unfolding(crate::specs::Prepare::send))]
+    fn send(self, i: usize, m: UnitIndex) -> System
+        ensures { result ≡ send i m.value self }
     {
         self.in_all(Change::Ac(i, self.unit(m).ac(i)))
     }
 
     // Before a load and a direct translation.
-    pub(crate) fn prepare(self, bytes: Bytes, m: usize) -> System
-        requires { m < 6 }
-        ensures { result ≡ prepare (needed bytes) m self }
+    #[tactic(auto, unfolding(crate::specs::Prepare::prepare))]
+    pub(crate) fn prepare(self, bytes: Bytes, m: UnitIndex) -> System
+        ensures { result ≡ prepare (needed bytes) m.value self }
     {
         if !self.inconsistent(bytes) {
             return self;

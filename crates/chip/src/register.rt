@@ -1,14 +1,9 @@
 // The registers by their addresses (handbook 4.6.1, Table 4-3).
 ghost use Rattle.std.specs.Prelude.{◌≡◌, ◌<◌};
 ghost use Rattle.chip.specs.Register.{register_at, read, write, write_gsr, operate};
-ghost use Rattle.chip.specs.Answer.{checked};
-ghost use Rattle.chip.specs.Call.{checks};
-ghost use Rattle.chip.specs.declared.call.Call.TheVariants as call;
 
-use crate::answer;
-use crate::answer::{Answer, Outcome, Reading, Refusal};
-use crate::search::Sought;
-use crate::system::System;
+use crate::answer::{Answer, Outcome, Reading};
+use crate::system::{System, UnitIndex};
 use registers::shared::Gsr;
 use registers::unit;
 use registers::unit::Change;
@@ -38,9 +33,9 @@ pub enum Operation {
 }
 
 impl Register {
-    // The row of an address; any other is a null operation.
+    // The row of an address; any other is a null operation. No `From`: an address is looked up in a table, and is no register.
     #[tactic(auto, unfolding(crate::specs::Register::register_at))]
-    fn at(address: u64) -> Register
+    pub(crate) fn at(address: u64) -> Register
         ensures { result ≡ register_at address }
     {
         match address {
@@ -68,9 +63,9 @@ impl Register {
 
 impl System {
     // 4.6.2.2, and the operations that a read designates.
-    fn read(self, register: Register, m: usize) -> Reading
-        requires { m < 6 }
-        ensures { result ≡ read register m self }
+    #[tactic(auto, unfolding(crate::specs::Register::read))]
+    fn read(self, register: Register, m: UnitIndex) -> Reading
+        ensures { result ≡ read register m.value self }
     {
         let unit = self.unit(m);
         match register {
@@ -78,10 +73,10 @@ impl System {
             Register::Ac(i) => self.reading(unit.ac(i)),
             Register::Dp => self.reading(unit.dp),
             Register::Ivr => self.reading(self.shared.ivr),
-            Register::Gsr => self.reading(self.shared.gsr.byte()),
-            Register::Lsr => self.reading(unit.lsr(self.in_unit(Sought::Pending, m).found())),
+            Register::Gsr => self.reading(u8::from(self.shared.gsr)),
+            Register::Lsr => self.reading(unit.lsr(self.lip(m))),
             Register::Ssr => self.transfer(m),
-            Register::Idp => self.reading(self.in_unit(Sought::Pending, m).number()),
+            Register::Idp => self.reading(self.idp(m)),
             Register::Rdp => self.reading(unit.rdp),
             Register::DirectTranslation => self.direct_translation(m),
             Register::LoadDescriptor => self.load(m),
@@ -90,10 +85,11 @@ impl System {
     }
 
     // 3.2.3: clearing F clears L4-L7.
+    #[tactic(auto, unfolding(crate::specs::Register::write_gsr))]
     fn write_gsr(self, value: u8) -> System
         ensures { result ≡ write_gsr value self }
     {
-        let gsr = Gsr::of(value);
+        let gsr = Gsr::from(value);
         let t = self.with_shared(self.shared.with_gsr(gsr));
         if gsr.f {
             t
@@ -103,9 +99,9 @@ impl System {
     }
 
     // 4.6.3.1, 4.6.2.4.
-    fn write(self, register: Register, m: usize, value: u8) -> System
-        requires { m < 6 }
-        ensures { result ≡ write register m value self }
+    #[tactic(auto, unfolding(crate::specs::Register::write))]
+    fn write(self, register: Register, m: UnitIndex, value: u8) -> System
+        ensures { result ≡ write register m.value value self }
     {
         match register {
             Register::Ast(i) => self.with_shared(self.shared.with_entry(i, value)),
@@ -123,9 +119,10 @@ impl System {
         }
     }
 
-    fn operate(self, operation: Operation, register: Register, m: usize) -> Outcome
-        requires { m < 6 }
-        ensures { result ≡ operate operation register m self }
+    // One register access by byte.
+    #[tactic(auto, unfolding(crate::specs::Register::operate))]
+    pub(crate) fn operate(self, operation: Operation, register: Register, m: UnitIndex) -> Outcome
+        ensures { result ≡ operate operation register m.value self }
     {
         match operation {
             Operation::Read => {
@@ -138,22 +135,5 @@ impl System {
             }
             Operation::Write(value) => self.write(register, m, value).granted(Answer::Done),
         }
-    }
-
-    // One register access by byte; refusals 1, 2 and 3.
-    pub(crate) fn register(self, unit: u64, address: u64, operation: Operation) -> Outcome
-        ensures { result ≡ checked (checks (call.Register unit address operation) self) self (operate operation (register_at address) unit self) }
-    {
-        let count = self.shared.board.count;
-        if answer::miscounted(count) {
-            return self.refused(Refusal::Count);
-        }
-        if unit >= count as u64 {
-            return self.refused(Refusal::Unit);
-        }
-        if address > 0x3F {
-            return self.refused(Refusal::Register);
-        }
-        self.operate(operation, Register::at(address), unit as usize)
     }
 }

@@ -1,28 +1,14 @@
 // Start and reset (handbook 4.5.1).
-ghost use Rattle.std.specs.Prelude.{◌≡◌};
+ghost use Rattle.std.specs.Prelude.{ℕ, ◌≡◌, ◌<◌, Some};
 ghost use Rattle.descriptors.specs.Descriptor.{zeros};
-ghost use Rattle.chip.specs.Reset.{blank, uninitialized, nothing, unselected, identity, fresh};
-ghost use Rattle.registers.specs.Shared.{board};
-ghost use Rattle.chip.specs.Answer.{granted, checked};
-ghost use Rattle.chip.specs.Call.{checks};
-ghost use Rattle.chip.specs.declared.answer.Answer.TheVariants.{Done};
-ghost use Rattle.chip.specs.declared.call.Call.TheVariants.{Start, Reset};
+ghost use Rattle.chip.specs.Reset.{blank, uninitialized, nothing, unselected, identity, fresh, unselectable};
 
-use crate::answer;
-use crate::answer::{Answer, Outcome, Refusal};
-use crate::system::System;
+use crate::system::{PlaceIndex, System};
 use descriptors::descriptor::Descriptor;
 use descriptors::status;
 use registers::shared::{Board, Gsr, Shared};
 use registers::unit;
 use registers::unit::{Byte, Change, Unit};
-
-// The unit that is chip-selected during reset, if any.
-#[derive(Clone, Copy)]
-pub enum Selected {
-    Unit(u64),
-    Nobody,
-}
 
 fn zeros() -> Descriptor
     ensures { result ≡ zeros }
@@ -85,6 +71,16 @@ fn uninitialized(board: Board) -> Shared
     }
 }
 
+// 2, of the unit that is chip-selected during reset, if any is.
+pub(crate) fn unselectable(selected: Option<u64>, count: u64) -> bool
+    ensures { result ≡ unselectable selected count }
+{
+    match selected {
+        Some(m) => m >= count,
+        None => false,
+    }
+}
+
 impl System {
     // Before the first start.
     pub fn nothing() -> System
@@ -113,6 +109,7 @@ impl System {
         }
     }
 
+    #[tactic(auto, unfolding(crate::specs::Reset::unselected))]
     fn unselected(board: Board) -> System
         ensures { result ≡ unselected board }
     {
@@ -121,35 +118,21 @@ impl System {
             .in_all(Change::Report(unit::NO, unit::NONE))
     }
 
-    // Refusals 1 and 2.
-    pub(crate) fn start(self, count: u64, selected: Selected) -> Outcome
-        ensures { result ≡ checked (checks (Start count selected) self) self (granted Done (fresh (board count) selected)) }
+    // Of a unit that can be there, or of none.
+    #[tactic(auto, unfolding(crate::specs::Reset::fresh))]
+    pub(crate) fn fresh(board: Board, selected: Option<u64>) -> System
+        requires { (m : ℕ) → selected ≡ Some m → m < 6 }
+        ensures { result ≡ fresh board selected }
     {
-        let n = count as usize;
-        if answer::miscounted(n) {
-            return self.refused(Refusal::Count);
-        }
-        let board = Board { count: n };
+        let system = System::unselected(board);
         match selected {
-            Selected::Nobody => System::unselected(board).granted(Answer::Done),
-            Selected::Unit(m) => {
-                if m < count {
-                    let i = 32 * (m as usize);
-                    System::unselected(board)
-                        .with_descriptor(i, identity())
-                        .granted(Answer::Done)
-                } else {
-                    self.refused(Refusal::Unit)
-                }
+            Some(m) => {
+                let first = PlaceIndex {
+                    value: 32 * (m as usize),
+                };
+                system.with_descriptor(first, identity())
             }
+            None => system,
         }
-    }
-
-    // Start for the count that is there.
-    pub(crate) fn reset(self, selected: Selected) -> Outcome
-        ensures { result ≡ checked (checks (Reset selected) self) self (granted Done (fresh self.shared.board selected)) }
-    {
-        let count = self.shared.board.count;
-        self.start(count as u64, selected)
     }
 }

@@ -1,159 +1,97 @@
 // The priority encoder: the first descriptor of which something holds (handbook 3.2.6, 3.2.7).
-ghost use Rattle.std.specs.Prelude.{◌≡◌, ◌+◌, ◌≤◌, ◌<◌};
-ghost use Rattle.chip.specs.System.{descriptor};
-ghost use Rattle.chip.specs.Search.{first, found, number_of, or_at, named, Placed, admits, answers, in_system, in_unit, searched, irq};
+ghost use Rattle.std.specs.Prelude.{◌≡◌, ◌/◌, ◌*◌, take, drop};
+ghost use Rattle.chip.specs.System.{present};
+ghost use Rattle.chip.specs.Search.{place, number_of, searched, lip, idp, irq};
 
-use crate::system::System;
-use descriptors::descriptor::{Descriptor, Match};
-use descriptors::status;
+use crate::system::{PlaceIndex, System, UnitIndex};
+use descriptors::descriptor::{Descriptor, Logical, Match};
 use registers::unit;
 
-// What is sought of a descriptor.
+// A descriptor by its unit and its number there.
 #[derive(Clone, Copy)]
-pub enum Sought {
-    Clash(Descriptor),
-    Pending,
+pub struct Place {
+    pub unit: u8,
+    pub descriptor: u8,
 }
 
-// A place among the 192.
-#[derive(Clone, Copy)]
-pub enum Found {
-    At(usize),
-    Nowhere,
-}
-
-// The lowest descriptor whose space alone differs, if there is one (document 02, P4).
-#[derive(Clone, Copy)]
-pub enum Near {
-    Place { unit: u8, descriptor: u8 },
-    Nothing,
-}
-
-// What a search for a match tells.
-#[derive(Clone, Copy)]
-pub enum Search {
-    Match(usize),
-    NoMatch(Near),
-}
-
-impl Sought {
-    // 3.1.6: whether a descriptor of this status can be the one.
-    fn admits(self, ssr: u8) -> bool
-        ensures { result ≡ admits self ssr }
+impl PlaceIndex {
+    pub(crate) fn unit(self) -> UnitIndex
+        ensures { result.value ≡ self.value / 32 }
     {
-        match self {
-            Sought::Clash(_) => ssr & status::E != 0,
-            Sought::Pending => ssr & status::IP != 0,
+        UnitIndex {
+            value: self.value / 32,
         }
     }
 
-    fn answers(self, e: Descriptor) -> bool
-        ensures { result ≡ answers self e }
+    pub(crate) fn place(self) -> Place
+        ensures { result ≡ place self.value }
     {
-        match self {
-            Sought::Clash(d) => d.collides(e),
-            Sought::Pending => e.pending(),
+        Place {
+            unit: (self.value / 32) as u8,
+            descriptor: (self.value % 32) as u8,
         }
     }
 }
 
-impl Found {
-    pub(crate) fn found(self) -> bool
-        ensures { result ≡ found self }
-    {
-        match self {
-            Found::At(_) => true,
-            Found::Nowhere => false,
-        }
-    }
-
-    // As the RDP and the IDP have it.
-    pub(crate) fn number(self) -> u8
-        ensures { result ≡ number_of self }
-    {
-        match self {
-            Found::At(i) => (i % 32) as u8,
-            Found::Nowhere => unit::NONE,
-        }
-    }
-
-    // A lower place stays.
-    fn or_at(self, i: usize) -> Found
-        ensures { result ≡ or_at self i }
-    {
-        match self {
-            Found::At(k) => Found::At(k),
-            Found::Nowhere => Found::At(i),
-        }
-    }
-
-    fn named(self) -> Near
-        requires { Placed self }
-        ensures { result ≡ named self }
-    {
-        match self {
-            Found::At(i) => Near::Place {
-                unit: (i / 32) as u8,
-                descriptor: (i % 32) as u8,
-            },
-            Found::Nowhere => Near::Nothing,
-        }
+// As the RDP and the IDP have what was found.
+fn number_of(found: Option<usize>) -> u8
+    ensures { result ≡ number_of found }
+{
+    match found {
+        Some(i) => (i % 32) as u8,
+        None => unit::NONE,
     }
 }
 
 impl System {
-    fn first(self, sought: Sought, from: usize, n: usize) -> Found
-        requires { from + n ≤ 192 }
-        ensures { result ≡ first (λ i. answers sought (descriptor self i)) from n }
+    // The descriptors of the units that there are.
+    pub(crate) fn in_system(&self) -> &[Descriptor]
+        ensures { result.now ≡ take (32 * present self.now) self.now.descriptors }
     {
-        for i in from..from + n {
-            if sought.admits(self.descriptors[i].ssr) {
-                let d = self.descriptors[i];
-                if sought.answers(d) {
-                    return Found::At(i);
-                }
-            }
-        }
-        Found::Nowhere
+        &self.descriptors[..32 * self.present()]
     }
 
-    pub(crate) fn in_system(self, sought: Sought) -> Found
-        ensures { result ≡ in_system (answers sought) self }
+    // Those of unit m.
+    pub(crate) fn in_unit(&self, m: UnitIndex) -> &[Descriptor]
+        ensures { result.now ≡ take 32 (drop (32 * m.value) self.now.descriptors) }
     {
-        self.first(sought, 0, 32 * self.present())
-    }
-
-    pub(crate) fn in_unit(self, sought: Sought, m: usize) -> Found
-        requires { m < 6 }
-        ensures { result ≡ in_unit (answers sought) m self }
-    {
-        self.first(sought, 32 * m, 32)
+        let from = 32 * m.value;
+        &self.descriptors[from..from + 32]
     }
 
     // 4.5.3.1, and P4: one pass finds the match, or the lowest descriptor whose space alone differs.
-    pub(crate) fn search(self, page: u16, number: u8) -> Search
-        ensures { result ≡ searched page number self }
+    pub(crate) fn search(&self, logical: Logical) -> Result<usize, Option<Place>>
+        ensures { result ≡ searched logical.page logical.number self.now }
     {
-        let mut near = Found::Nowhere;
-        for i in 0..32 * self.present() {
-            if self.descriptors[i].ssr & status::E != 0 {
-                let d = self.descriptors[i];
-                match d.match_answer(page, number) {
-                    Match::Yes => return Search::Match(i),
-                    Match::SpaceDiffers => near = near.or_at(i),
-                    Match::Disabled => {}
-                    Match::RangeDiffers => {}
-                    Match::BothDiffer => {}
-                }
+        let mut near = None;
+        for (i, d) in self.in_system().iter().enumerate() {
+            match d.match_answer(logical) {
+                Match::Yes => return Ok(i),
+                Match::SpaceDiffers => near = near.or(Some(PlaceIndex { value: i }.place())),
+                Match::Disabled | Match::RangeDiffers | Match::BothDiffer => {}
             }
         }
-        Search::NoMatch(near.named())
+        Err(near)
+    }
+
+    // 3.2.4: some descriptor of the unit has IP set.
+    pub(crate) fn lip(self, m: UnitIndex) -> bool
+        ensures { result ≡ lip m.value self }
+    {
+        self.in_unit(m).iter().any(|d| d.pending())
+    }
+
+    // 3.2.7: the number of the first that has.
+    pub(crate) fn idp(self, m: UnitIndex) -> u8
+        ensures { result ≡ idp m.value self }
+    {
+        number_of(self.in_unit(m).iter().position(|d| d.pending()))
     }
 
     // 2.14: the interrupt request line.
-    pub(crate) fn irq(self) -> bool
-        ensures { result ≡ irq self }
+    pub(crate) fn irq(&self) -> bool
+        ensures { result ≡ irq self.now }
     {
-        self.shared.gsr.ie && self.in_system(Sought::Pending).found()
+        self.shared.gsr.ie && self.in_system().iter().any(|d| d.pending())
     }
 }

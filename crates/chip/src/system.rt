@@ -15,6 +15,20 @@ pub struct System {
     pub descriptors: [Descriptor; 192],
 }
 
+// The number of a unit that a board has room for.
+#[derive(Clone, Copy)]
+pub(crate) struct UnitIndex {
+    pub(crate) value: usize,
+    ghost below: { value < 6 },
+}
+
+// A place among the 192 descriptors: descriptor i % 32 of unit i / 32.
+#[derive(Clone, Copy)]
+pub(crate) struct PlaceIndex {
+    pub(crate) value: usize,
+    ghost below: { value < 192 },
+}
+
 impl System {
     pub fn present(self) -> usize
         ensures { result ≡ present self }
@@ -23,36 +37,35 @@ impl System {
         if count < 6 { count } else { 6 }
     }
 
-    pub(crate) fn unit(self, m: usize) -> Unit
-        requires { m < 6 }
-        ensures { result ≡ unit self m }
+    pub(crate) fn unit(self, m: UnitIndex) -> Unit
+        ensures { result ≡ unit self m.value }
     {
-        self.units[m]
+        self.units[m.value]
     }
 
-    pub(crate) fn descriptor(self, i: usize) -> Descriptor
-        requires { i < 192 }
-        ensures { result ≡ descriptor self i }
+    pub(crate) fn descriptor(self, i: PlaceIndex) -> Descriptor
+        ensures { result ≡ descriptor self i.value }
     {
-        self.descriptors[i]
+        self.descriptors[i.value]
     }
 
-    pub(crate) fn with_unit(mut self, m: usize, unit: Unit) -> System
-        requires { m < 6 }
-        ensures { result ≡ with_unit self m unit }
+    #[tactic(auto, unfolding(crate::specs::System::with_units))]
+    pub(crate) fn with_unit(mut self, m: UnitIndex, unit: Unit) -> System
+        ensures { result ≡ with_unit self m.value unit }
     {
-        self.units[m] = unit;
+        self.units[m.value] = unit;
         self
     }
 
-    pub(crate) fn with_descriptor(mut self, i: usize, d: Descriptor) -> System
-        requires { i < 192 }
-        ensures { result ≡ with_descriptor self i d }
+    #[tactic(auto, unfolding(crate::specs::System::with_descriptor))]
+    pub(crate) fn with_descriptor(mut self, i: PlaceIndex, d: Descriptor) -> System
+        ensures { result ≡ with_descriptor self i.value d }
     {
-        self.descriptors[i] = d;
+        self.descriptors[i.value] = d;
         self
     }
 
+    #[tactic(auto, unfolding(crate::specs::System::with_shared))]
     pub(crate) fn with_shared(mut self, shared: Shared) -> System
         ensures { result ≡ with_shared self shared }
     {
@@ -61,12 +74,13 @@ impl System {
     }
 
     // 3.2.5: where the unit's DP points.
-    pub(crate) fn pointed(self, m: usize) -> usize
-        requires { m < 6 }
-        ensures { result ≡ pointed m self }
+    pub(crate) fn pointed(self, m: UnitIndex) -> PlaceIndex
+        ensures { result.value ≡ pointed m.value self }
     {
         let unit = self.unit(m);
-        32 * m + (unit.dp % 32) as usize
+        PlaceIndex {
+            value: 32 * m.value + (unit.dp % 32) as usize,
+        }
     }
 
     // 4.6.3: in all units at once.
@@ -74,10 +88,11 @@ impl System {
         ensures { result ≡ in_all (changed change) self }
     {
         let n = self.present();
-        for m in 0..n {
-            let unit = self.units[m];
-            self.units[m] = unit.change(change);
+        let mut units = self.units;
+        for unit in &mut units[..n] {
+            *unit = unit.change(change);
         }
+        self.units = units;
         self
     }
 }

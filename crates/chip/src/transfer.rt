@@ -3,27 +3,21 @@ ghost use Rattle.std.specs.Prelude.{◌≡◌, ◌<◌};
 ghost use Rattle.chip.specs.Transfer.{transfer, write_status};
 
 use crate::answer::Reading;
-use crate::search::Near;
-use crate::system::System;
+use crate::system::{System, UnitIndex};
 use descriptors::status;
 
 impl System {
-    pub(crate) fn transfer(self, m: usize) -> Reading
-        requires { m < 6 }
-        ensures { result ≡ transfer m self }
+    #[tactic(auto, unfolding(crate::specs::Transfer::transfer))]
+    pub(crate) fn transfer(self, m: UnitIndex) -> Reading
+        ensures { result ≡ transfer m.value self }
     {
         let d = self.descriptor(self.pointed(m));
-        let system = self.with_unit(m, self.unit(m).take(d));
-        Reading {
-            byte: d.ssr,
-            near: Near::Nothing,
-            system,
-        }
+        self.with_unit(m, self.unit(m).take(d)).reading(d.ssr)
     }
 
-    pub(crate) fn write_status(self, m: usize, value: u8) -> System
-        requires { m < 6 }
-        ensures { result ≡ write_status m value self }
+    #[tactic(auto, unfolding(crate::specs::Transfer::write_status))]
+    pub(crate) fn write_status(self, m: UnitIndex, value: u8) -> System
+        ensures { result ≡ write_status m.value value self }
     {
         let i = self.pointed(m);
         let d = self.descriptor(i);

@@ -1,6 +1,7 @@
 -- What a call answers, and what it leaves in the block.
 --     long_answer, long_after     a block that is long enough: the outcome's answer as a number, and its system if it is granted
 --     short_answer       one that is too short: 7
+--     refused_told, others_told   so a refusal is its number and leaves the block, and any other answer is written
 --     Holds t b          the block b is long enough, reads as t, and is t's one written form
 --     form_holds         the written form of a clean system does, whatever follows it
 --     told_is, told_alone     what an answer tells, and what a refusal leaves, whatever the call
@@ -22,11 +23,14 @@ use lib.Dec.{eqb, lit<}
 use lib.ListN.{length, drop, length-append}
 use lib.Seq.{drop_at}
 use borrow.Author.Tests.{eq-eqb, ne_eqb, eqb-true, le-ltb}
-use Rattle.chip.specs.Answer.{values, refused, first_of, numbered}
+use Rattle.chip.specs.Answer.{number, values, refused, first_of, numbered}
 use Rattle.chip.specs.Call.{checks, carried_out, performed}
 use Rattle.chip.specs.Clean.{Clean}
 use Rattle.chip.specs.declared.system.System.{System}
 use Rattle.chip.specs.declared.answer.Outcome.{Outcome}
+use Rattle.chip.specs.declared.answer.Refusal.{Refusal}
+use Rattle.chip.specs.declared.answer.Answer.{Answer}
+use Rattle.chip.specs.declared.answer.Answer.TheVariants.{Refused, Done, Byte, Mapped, Violation, Undefined}
 use Rattle.chip.specs.declared.call.Call.{Call}
 use Rattle.chip.proofs.Checked.{either, refusal_told, checks_law, carried_out_granted, performed_number, number_fits}
 use Rattle.chip.proofs.Steps.{bus, performed_clean}
@@ -60,6 +64,29 @@ long_after c b long =
     (checks_law c (read b)
     (λ n (o : Outcome). cond (eqb n 0) (written b (carried_out c (read b)).system) b ≡ cond (eqb n 0) (written b o.system) b)
     (λ r. rw (ne_eqb _ _ (refusal_told r).0) refl) (λ n. refl))
+
+-- so a refusal is its number and leaves the block, and any other answer is written
+pub refused_told : (c : Call) (b : List ℕ) (r : Refusal) → short b ≡ false → (performed c (read b)).answer ≡ Refused r
+    → (answer c b ≡ number r) × (after c b ≡ b)
+unfolding answer after
+refused_told c b r long e =
+    let first : first_of (numbered (checks c (read b))) ≡ number r =
+    sym (performed_number c (read b)) ∙ ap (λ (a : Answer). (values a).number) e in
+    rw (long, first, ne_eqb _ _ (refusal_told r).0) (refl, refl)
+
+no_refusal : (a : Answer) → ((r : Refusal) → a ≡ Refused r → ⊥) → (values a).number ≡ 0
+no_refusal (Refused r) h = absurd (h r refl)
+no_refusal Done h = refl
+no_refusal (Byte byte near) h = refl
+no_refusal (Mapped address place win) h = refl
+no_refusal (Violation place win) h = refl
+no_refusal (Undefined near) h = refl
+
+pub others_told : (c : Call) (b : List ℕ) → short b ≡ false → let o = performed c (read b) in ((r : Refusal) → o.answer ≡ Refused r → ⊥)
+    → (answer c b ≡ number_of (values o.answer) o.irq) × (after c b ≡ written b o.system)
+others_told c b long h =
+    let none : (values (performed c (read b)).answer).number ≡ 0 = no_refusal (performed c (read b)).answer h in
+    (long_answer c b long, long_after c b long ∙ rw (eq-eqb _ _ none) refl)
 
 pub record Holds (t : System) (b : List ℕ) : Type 0 where
   pub long : short b ≡ false

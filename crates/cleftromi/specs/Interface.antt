@@ -1,5 +1,5 @@
 -- What a call from C does to the lent block, and the number that it answers (docs/LAYOUTS.md).
-use Rattle.std.specs.Prelude.{ℕ, Bool, cond, List, ◌∷◌, eqb, length}
+use Rattle.std.specs.Prelude.{ℕ, Bool, cond, List, ◌∷◌, eqb, length, Option, Some, None}
 use Rattle.chip.specs.Answer.{values, granted, first_of, numbered}
 use Rattle.chip.specs.Call.{checks, carried_out}
 use Rattle.cleftromi.specs.Fields.{number_of}
@@ -12,8 +12,6 @@ use Rattle.chip.specs.declared.access.Cycle.{Cycle}
 use Rattle.chip.specs.declared.access.Cycle.TheVariants as cycle
 use Rattle.chip.specs.declared.register.Operation.{Operation}
 use Rattle.chip.specs.declared.register.Operation.TheVariants as operation
-use Rattle.chip.specs.declared.reset.Selected.{Selected}
-use Rattle.chip.specs.declared.reset.Selected.TheVariants as selected
 use Rattle.chip.specs.declared.call.Call.{Call}
 
 -- The numbers that a host passes: a unit, or 255 for none; direction 0 reads, 2 is a read-modify-write of a bus access, any other
@@ -21,8 +19,8 @@ use Rattle.chip.specs.declared.call.Call.{Call}
 abbrev pub none : ℕ
 none = 255
 
-abbrev pub selected_by : (number : ℕ) → Selected
-selected_by number = cond (eqb number none) selected.Nobody (selected.Unit number)
+abbrev pub selected_by : (number : ℕ) → Option ℕ
+selected_by number = cond (eqb number none) None (Some number)
 
 abbrev pub cycle_by : (direction : ℕ) → Cycle
 cycle_by direction = cond (eqb direction 0) cycle.Read (cond (eqb direction 2) cycle.ReadModifyWrite cycle.Write)

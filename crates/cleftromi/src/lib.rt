@@ -12,9 +12,8 @@ use chip::access::Cycle;
 use chip::answer::{Answer, Outcome, Values};
 use chip::call::Call;
 use chip::register::Operation;
-use chip::reset::Selected;
 
-// "None" for a unit.
+// What a C host passes by number. "None" for a unit.
 const NONE: u64 = 255;
 
 // The direction that reads, and of a bus access that of a read-modify-write; any other number writes.
@@ -22,38 +21,32 @@ const READ: u64 = 0;
 
 const MODIFY: u64 = 2;
 
-// The refusal of a block that is too short.
+// The refusal of a block that is too short. A number, and no enum: a C host gets it as it is.
 const SHORT: u64 = 7;
 
-fn selected_by(number: u64) -> Selected
+// By functions, and no `From`, here and below: the number and the type are both of other crates.
+fn selected_by(number: u64) -> Option<u64>
     ensures { result ≡ selected_by number }
 {
-    if number == NONE {
-        Selected::Nobody
-    } else {
-        Selected::Unit(number)
-    }
+    if number == NONE { None } else { Some(number) }
 }
 
 fn cycle_by(direction: u64) -> Cycle
     ensures { result ≡ cycle_by direction }
 {
-    if direction == READ {
-        Cycle::Read
-    } else if direction == MODIFY {
-        Cycle::ReadModifyWrite
-    } else {
-        Cycle::Write
+    match direction {
+        READ => Cycle::Read,
+        MODIFY => Cycle::ReadModifyWrite,
+        _ => Cycle::Write,
     }
 }
 
 fn operation_by(direction: u64, value: u8) -> Operation
     ensures { result ≡ operation_by direction value }
 {
-    if direction == READ {
-        Operation::Read
-    } else {
-        Operation::Write(value)
+    match direction {
+        READ => Operation::Read,
+        _ => Operation::Write(value),
     }
 }
 
@@ -89,14 +82,10 @@ fn run(state: &mut [u8], call: Call) -> u64
         return SHORT;
     }
     let outcome = block::read::read(state).perform(call);
-    let answer = outcome.answer;
-    let values = answer.values();
-    let number = number_of(values, outcome.irq);
-    if values.number != 0 {
-        return number;
+    match outcome.answer {
+        Answer::Refused(refusal) => u64::from(refusal.number()),
+        _ => finish(state, outcome),
     }
-    block::write::write(state, outcome.system);
-    number
 }
 
 // What a call that is granted answers and leaves.
@@ -178,11 +167,10 @@ pub fn cleftromi_save(state: &mut [u8], image: &mut [u8]) -> u64
         return SHORT;
     }
     let system = block::read::read(state);
-    let refusal = image::write::save(image, system);
-    if refusal != 0 {
-        return refusal as u64;
+    match image::write::save(image, system) {
+        Ok(()) => finish(state, system.granted(Answer::Done)),
+        Err(refusal) => u64::from(refusal.number()),
     }
-    finish(state, system.granted(Answer::Done))
 }
 
 pub fn cleftromi_restore(state: &mut [u8], image: &[u8]) -> u64
@@ -192,11 +180,8 @@ pub fn cleftromi_restore(state: &mut [u8], image: &[u8]) -> u64
     if short(state) {
         return SHORT;
     }
-    let restored = image::read::restore(image);
-    let refusal = restored.refusal;
-    if refusal != 0 {
-        return refusal as u64;
+    match image::read::restore(image) {
+        Ok(system) => finish(state, system.granted(Answer::Done)),
+        Err(refusal) => u64::from(refusal.number()),
     }
-    let system = restored.system;
-    finish(state, system.granted(Answer::Done))
 }

@@ -22,11 +22,11 @@ pub outcomes : Outcomes
 outcomes = record {
   -- proofs, by .ci/claims write
   -- masks
-  byte_agree = λ κs a x y v w p q. (same p q, refl);
-  byte_clash = λ κs a x y v w p q. (same p q, refl);
-  word_agree = λ κs a x y v w p q. (same p q, refl);
-  word_clash = λ κs a x y v w p q. (same p q, refl);
-  word_gate = λ κs a x y v w p q. (same p q, refl);
+  U8FieldIsZero = λ κs a x y v w p q. (same p q, refl);
+  U16FieldIsZero = λ κs a x y v w p q. (same p q, refl);
+  agree = λ g1 g2 g3 g4 g5 g6 g7 g8 g9 g10 g11 κs a x y v w p q. (same p q, refl);
+  clash = λ g1 g2 g3 g4 g5 g6 g7 g8 g9 g10 g11 κs a x y v w p q. (same p q, refl);
+  gate = λ κs a x y v w p q. (same p q, refl);
   -- pieces
   join = λ κs a x y v w p q. (same p q, refl);
   within = λ κs a x y v w p q. (same p q, refl);
@@ -59,8 +59,8 @@ outcomes = record {
   status_rewritten = λ κs a x y v w p q. (same p q, refl);
   -- registers
   GsrFaulted = λ κs a x y v w p q. (same p q, refl);
-  GsrOf = λ κs a x y v w p q. (same p q, refl);
-  GsrByte = λ κs a x y v w p q. (same p q, refl);
+  GsrFromU8From = λ κs a x y v w p q. (same p q, refl);
+  U8FromGsrFrom = λ κs a x y v w p q. (same p q, refl);
   SharedEntry = λ κs a x y v w p q. (same p q, refl);
   SharedWithEntry = λ κs a x y v w p q. (same p q, refl);
   SharedWithGsr = λ κs a x y v w p q. (same p q, refl);
@@ -82,6 +82,7 @@ outcomes = record {
   UnitPage = λ κs a x y v w p q. (same p q, refl);
   UnitSegment = λ κs a x y v w p q. (same p q, refl);
   -- chip
+  RefusalNumber = λ κs a x y v w p q. (same p q, refl);
   AnswerValues = λ κs a x y v w p q. (same p q, refl);
   answer_miscounted = λ κs a x y v w p q. (same p q, refl);
   SystemGranted = λ κs a x y v w p q. (same p q, refl);
@@ -93,6 +94,7 @@ outcomes = record {
   block_write = λ κs a x y v w p q. (refl, lent p q refl);
   -- image
   read_restore = λ κs a x y v w p q. (same p q, refl);
+  ImageRefusalNumber = λ κs a x y v w p q. (same p q, refl);
   write_save = λ κs a x y v w p q. (same p.0 q.0, lent p.1 q.1 refl);
   -- cleftromi
   cleftromi_start = λ κs a x y v w p q. (same p.0 q.0, lent p.1 q.1 refl);

@@ -1,4 +1,5 @@
 -- The checker's theorems of the functions for C; that their promises can be kept; and a block that is reached. Assumes nothing.
+use Rattle.std.specs.Prelude.{Some}
 use Prim.Native.Nat.{ℕ}
 use mathlib.Core.Path.{◌≡◌, refl, ◌∙◌}
 use mathlib.Core.List.{List, []}
@@ -12,7 +13,6 @@ use Rattle.cleftromi.proofs.cleftromi_acknowledge as cleftromi_acknowledge
 use Rattle.cleftromi.proofs.cleftromi_save as cleftromi_save
 use Rattle.cleftromi.proofs.cleftromi_restore as cleftromi_restore
 use Rattle.chip.specs.declared.call.Call.TheVariants as call
-use Rattle.chip.specs.declared.reset.Selected.TheVariants as selected
 use Rattle.cleftromi.specs.Interface.{answer, after}
 use Rattle.demands.specs.Histories as histories
 use Rattle.demands.specs.Histories.{Start}
@@ -38,7 +38,7 @@ as_long : length zeros ≡ 4096
 unfolding zeros
 as_long = length-replicate {A = ℕ} 4096 0
 
-begun : Start 1 0 zeros (answer (call.Start 1 (selected.Unit 0)) zeros) (after (call.Start 1 (selected.Unit 0)) zeros)
+begun : Start 1 0 zeros (answer (call.Start 1 (Some 0)) zeros) (after (call.Start 1 (Some 0)) zeros)
 begun = record {
   lifetimes = ([], tt);
   places = λ j. ((0, 0), 0);

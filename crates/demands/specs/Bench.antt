@@ -1,14 +1,13 @@
 -- The bench: what it prints, byte by byte, is what the definitions say of the whole input. No contract can speak of what a
 -- program reads and writes, so the steps of its loop (crates/bench) are written out here, each by the promise of the
 -- function that it calls.
-use Rattle.std.specs.Prelude.{ℕ, ◌<◌, ◌≡◌, ◌≢◌, Bool, true, false, List, [], ◌∷◌, ◌++◌, length}
+use Rattle.std.specs.Prelude.{None, ℕ, ◌<◌, ◌≡◌, ◌≢◌, Bool, true, false, List, [], ◌∷◌, ◌++◌, length}
 use Rattle.chip.specs.declared.system.System.{System}
 use Rattle.text.specs.Ascii.{line_feed}
 use Rattle.text.specs.Text.{held}
 use Rattle.text.specs.declared.Text.{Text}
 use Rattle.lines.specs.Line.{meaning}
 use Rattle.lines.specs.Turn.{lines, transcript}
-use Rattle.lines.specs.declared.line.Line.TheVariants.{Bad}
 use Rattle.lines.specs.declared.turn.Turn.{Turn}
 use Rattle.demands.specs.Promises.{Returned}
 use Rattle.chip.proofs.system.System.nothing as SystemNothing
@@ -53,4 +52,4 @@ pub record Bench : Type 0 where
   -- one line for each line
   pub line_for_line : (input : List ℕ) → length (lines (transcript input)) ≡ length (lines input)
   -- any line above 16 bytes is bad
-  pub long : (line : List ℕ) → 16 < length line → meaning line ≡ Bad
+  pub long : (line : List ℕ) → 16 < length line → meaning line ≡ None

@@ -1,5 +1,5 @@
 -- The demands, each under the user's words. What is claimed is claimed of anything that keeps the promises of the functions for C.
-use Rattle.std.specs.Prelude.{ℕ, ◌*◌, ◌/◌, ◌^◌, ◌<◌, ◌≡◌, ◌≢◌, ◌↔◌, Bool, true, false, ◌||◌, List, eqb}
+use Rattle.std.specs.Prelude.{ℕ, ◌*◌, ◌/◌, ◌^◌, ◌<◌, ◌≡◌, ◌≢◌, ◌↔◌, Bool, true, false, ◌||◌, List, eqb, Option}
 use Rattle.masks.specs.Fields.{bit}
 use Rattle.descriptors.specs.Status.{E}
 use Rattle.descriptors.specs.Descriptor.{enabled, pending, matches}
@@ -12,7 +12,6 @@ use Rattle.chip.specs.Clean.{Clean}
 use Rattle.chip.specs.Load.{Collision}
 use Rattle.chip.specs.Event.{Event, Left, Lowest}
 use Rattle.chip.specs.Event as event
-use Rattle.chip.specs.declared.search.Found.{Found}
 use Rattle.chip.specs.declared.answer.Outcome.{Outcome}
 use Rattle.chip.specs.declared.call.Call.{Call}
 use Rattle.pieces.specs.Pieces.{Bytes}
@@ -138,7 +137,7 @@ pub record NoStaleNeighbour : Type 0 where
       → field.byte answer ≢ 0xFF → Leaves event.load_granted b after
   pub refused_load : {m value answer : ℕ} {b after : List ℕ} → Bytes b → Load m value b answer after → refusal answer ≡ 0
       → field.byte answer ≡ 0xFF
-      → (lowest : ℕ → Found) × ((k : ℕ) → Lowest (segment (unit (read b) m)) (pointed m (read b)) k (read b) (lowest k))
+      → (lowest : ℕ → Option ℕ) × ((k : ℕ) → Lowest (segment (unit (read b) m)) (pointed m (read b)) k (read b) (lowest k))
       × Leaves (event.load_refused lowest) b after
   pub translation : {m value answer : ℕ} {b after : List ℕ} → Bytes b → Translation m value b answer after → refusal answer ≡ 0
       → Leaves (event.translation (matching (word (unit (read b) m) 0) (ac (unit (read b) m) 6) (read b))) b after

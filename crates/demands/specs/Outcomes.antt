@@ -3,11 +3,11 @@
 -- for each. `.ci/claims write` writes the lists from the sources, and the gate sees that they are current.
 -- imports, by .ci/claims write
 -- masks
-use Rattle.masks.proofs.byte.agree as byte_agree
-use Rattle.masks.proofs.byte.clash as byte_clash
-use Rattle.masks.proofs.word.agree as word_agree
-use Rattle.masks.proofs.word.clash as word_clash
-use Rattle.masks.proofs.word.gate as word_gate
+use Rattle.masks.proofs.U8Field.is_zero as U8FieldIsZero
+use Rattle.masks.proofs.U16Field.is_zero as U16FieldIsZero
+use Rattle.masks.proofs.agree as agree
+use Rattle.masks.proofs.clash as clash
+use Rattle.masks.proofs.gate as gate
 -- pieces
 use Rattle.pieces.proofs.join as join
 use Rattle.pieces.proofs.within as within
@@ -40,8 +40,8 @@ use Rattle.descriptors.proofs.status.disabled as status_disabled
 use Rattle.descriptors.proofs.status.rewritten as status_rewritten
 -- registers
 use Rattle.registers.proofs.shared.Gsr.faulted as GsrFaulted
-use Rattle.registers.proofs.shared.Gsr.of as GsrOf
-use Rattle.registers.proofs.shared.Gsr.byte as GsrByte
+use Rattle.registers.proofs.shared.GsrFromU8.from as GsrFromU8From
+use Rattle.registers.proofs.shared.U8FromGsr.from as U8FromGsrFrom
 use Rattle.registers.proofs.shared.Shared.entry as SharedEntry
 use Rattle.registers.proofs.shared.Shared.with_entry as SharedWithEntry
 use Rattle.registers.proofs.shared.Shared.with_gsr as SharedWithGsr
@@ -63,6 +63,7 @@ use Rattle.registers.proofs.unit.Unit.ac as UnitAc
 use Rattle.registers.proofs.unit.Unit.page as UnitPage
 use Rattle.registers.proofs.unit.Unit.segment as UnitSegment
 -- chip
+use Rattle.chip.proofs.answer.Refusal.number as RefusalNumber
 use Rattle.chip.proofs.answer.Answer.values as AnswerValues
 use Rattle.chip.proofs.answer.miscounted as answer_miscounted
 use Rattle.chip.proofs.system.System.granted as SystemGranted
@@ -74,6 +75,7 @@ use Rattle.block.proofs.read.read as block_read
 use Rattle.block.proofs.write.write as block_write
 -- image
 use Rattle.image.proofs.read.restore as read_restore
+use Rattle.image.proofs.refusal.Refusal.number as ImageRefusalNumber
 use Rattle.image.proofs.write.save as write_save
 -- cleftromi
 use Rattle.cleftromi.proofs.cleftromi_start as cleftromi_start
@@ -88,14 +90,15 @@ use Rattle.lines.proofs.turn.answer as turn_answer
 -- end
 use Rattle.demands.specs.Promises.{AtMostOne}
 
-pub record Outcomes : Type 0 where
+-- a claim over a function with a type parameter is one for every type, and every `impl` of its bound
+pub record Outcomes : Type 2 where
   -- fields, by .ci/claims write
   -- masks
-  pub byte_agree : AtMostOne byte_agree.Kinds.ps byte_agree.Kinds.r byte_agree.Reads.Post
-  pub byte_clash : AtMostOne byte_clash.Kinds.ps byte_clash.Kinds.r byte_clash.Reads.Post
-  pub word_agree : AtMostOne word_agree.Kinds.ps word_agree.Kinds.r word_agree.Reads.Post
-  pub word_clash : AtMostOne word_clash.Kinds.ps word_clash.Kinds.r word_clash.Reads.Post
-  pub word_gate : AtMostOne word_gate.Kinds.ps word_gate.Kinds.r word_gate.Reads.Post
+  pub U8FieldIsZero : AtMostOne U8FieldIsZero.Kinds.ps U8FieldIsZero.Kinds.r U8FieldIsZero.Reads.Post
+  pub U16FieldIsZero : AtMostOne U16FieldIsZero.Kinds.ps U16FieldIsZero.Kinds.r U16FieldIsZero.Reads.Post
+  pub agree : (g1 g2 g3 g4 g5 g6 g7 g8 g9 g10 g11 : _) → AtMostOne (agree.Kinds.ps g1 g2 g3) (agree.Kinds.r g1 g2 g3) (agree.Reads.Post g1 g2 g3 g4 g5 g6 g7 g8 g9 g10 g11)
+  pub clash : (g1 g2 g3 g4 g5 g6 g7 g8 g9 g10 g11 : _) → AtMostOne (clash.Kinds.ps g1 g2 g3) (clash.Kinds.r g1 g2 g3) (clash.Reads.Post g1 g2 g3 g4 g5 g6 g7 g8 g9 g10 g11)
+  pub gate : AtMostOne gate.Kinds.ps gate.Kinds.r gate.Reads.Post
   -- pieces
   pub join : AtMostOne join.Kinds.ps join.Kinds.r join.Reads.Post
   pub within : AtMostOne within.Kinds.ps within.Kinds.r within.Reads.Post
@@ -128,8 +131,8 @@ pub record Outcomes : Type 0 where
   pub status_rewritten : AtMostOne status_rewritten.Kinds.ps status_rewritten.Kinds.r status_rewritten.Reads.Post
   -- registers
   pub GsrFaulted : AtMostOne GsrFaulted.Kinds.ps GsrFaulted.Kinds.r GsrFaulted.Reads.Post
-  pub GsrOf : AtMostOne GsrOf.Kinds.ps GsrOf.Kinds.r GsrOf.Reads.Post
-  pub GsrByte : AtMostOne GsrByte.Kinds.ps GsrByte.Kinds.r GsrByte.Reads.Post
+  pub GsrFromU8From : AtMostOne GsrFromU8From.Kinds.ps GsrFromU8From.Kinds.r GsrFromU8From.Reads.Post
+  pub U8FromGsrFrom : AtMostOne U8FromGsrFrom.Kinds.ps U8FromGsrFrom.Kinds.r U8FromGsrFrom.Reads.Post
   pub SharedEntry : AtMostOne SharedEntry.Kinds.ps SharedEntry.Kinds.r SharedEntry.Reads.Post
   pub SharedWithEntry : AtMostOne SharedWithEntry.Kinds.ps SharedWithEntry.Kinds.r SharedWithEntry.Reads.Post
   pub SharedWithGsr : AtMostOne SharedWithGsr.Kinds.ps SharedWithGsr.Kinds.r SharedWithGsr.Reads.Post
@@ -151,6 +154,7 @@ pub record Outcomes : Type 0 where
   pub UnitPage : AtMostOne UnitPage.Kinds.ps UnitPage.Kinds.r UnitPage.Reads.Post
   pub UnitSegment : AtMostOne UnitSegment.Kinds.ps UnitSegment.Kinds.r UnitSegment.Reads.Post
   -- chip
+  pub RefusalNumber : AtMostOne RefusalNumber.Kinds.ps RefusalNumber.Kinds.r RefusalNumber.Reads.Post
   pub AnswerValues : AtMostOne AnswerValues.Kinds.ps AnswerValues.Kinds.r AnswerValues.Reads.Post
   pub answer_miscounted : AtMostOne answer_miscounted.Kinds.ps answer_miscounted.Kinds.r answer_miscounted.Reads.Post
   pub SystemGranted : AtMostOne SystemGranted.Kinds.ps SystemGranted.Kinds.r SystemGranted.Reads.Post
@@ -162,6 +166,7 @@ pub record Outcomes : Type 0 where
   pub block_write : AtMostOne block_write.Kinds.ps block_write.Kinds.r block_write.Reads.Post
   -- image
   pub read_restore : AtMostOne read_restore.Kinds.ps read_restore.Kinds.r read_restore.Reads.Post
+  pub ImageRefusalNumber : AtMostOne ImageRefusalNumber.Kinds.ps ImageRefusalNumber.Kinds.r ImageRefusalNumber.Reads.Post
   pub write_save : AtMostOne write_save.Kinds.ps write_save.Kinds.r write_save.Reads.Post
   -- cleftromi
   pub cleftromi_start : AtMostOne cleftromi_start.Kinds.ps cleftromi_start.Kinds.r cleftromi_start.Reads.Post

@@ -1,3 +1,4 @@
+pub mod Tests
 pub mod Row
 pub mod Match
 pub mod Clash

@@ -4,7 +4,6 @@ ghost use Rattle.descriptors.specs.Descriptor.{enabled, protected, pending, with
 ghost use Rattle.descriptors.specs.Descriptor.{range_match, space_match, match_answer, physical_page, clashes, collides};
 
 use crate::status;
-use masks::{byte, word};
 
 // The nine bytes, in accumulator order (Table 3-1).
 #[derive(Clone, Copy)]
@@ -15,6 +14,13 @@ pub struct Descriptor {
     pub asn: u8,
     pub ssr: u8,
     pub asm: u8,
+}
+
+// What a descriptor is asked for: a logical page, in the address space of this number (4.5.3.1).
+#[derive(Clone, Copy)]
+pub struct Logical {
+    pub page: u16,
+    pub number: u8,
 }
 
 // Whether a descriptor matches, and if not, why (document 02, P4).
@@ -28,23 +34,27 @@ pub enum Match {
 }
 
 impl Descriptor {
+    // Three questions of one form, each by the handbook's name: a bit as a parameter would say less where they are asked.
     // 3.1.6: only an enabled segment takes part in matching.
-    pub fn enabled(self) -> bool
-        ensures { result ≡ enabled self }
+    #[tactic(auto, using(masks::proofs::Bits::test_of))]
+    pub fn enabled(&self) -> bool
+        ensures { result ≡ enabled self.now }
     {
         self.ssr & status::E != 0
     }
 
     // 3.1.6.
-    pub fn protected(self) -> bool
-        ensures { result ≡ protected self }
+    #[tactic(auto, using(masks::proofs::Bits::test_of))]
+    pub fn protected(&self) -> bool
+        ensures { result ≡ protected self.now }
     {
         self.ssr & status::WP != 0
     }
 
     // 3.1.6.
-    pub fn pending(self) -> bool
-        ensures { result ≡ pending self }
+    #[tactic(auto, using(masks::proofs::Bits::test_of))]
+    pub fn pending(&self) -> bool
+        ensures { result ≡ pending self.now }
     {
         self.ssr & status::IP != 0
     }
@@ -57,31 +67,32 @@ impl Descriptor {
     }
 
     // 4.5.3.1.
-    fn range_match(self, page: u16) -> bool
-        ensures { result ≡ range_match self page }
+    fn range_match(&self, page: u16) -> bool
+        ensures { result ≡ range_match self.now page }
     {
-        word::agree(self.lam, page, self.lba)
+        masks::agree(self.lam, page, self.lba)
     }
 
     // 4.5.3.1.
-    fn space_match(self, number: u8) -> bool
-        ensures { result ≡ space_match self number }
+    fn space_match(&self, number: u8) -> bool
+        ensures { result ≡ space_match self.now number }
     {
-        byte::agree(self.asm, number, self.asn)
+        masks::agree(self.asm, number, self.asn)
     }
 
     // 4.5.3.2, and E, which decides before the other two.
-    pub fn match_answer(self, page: u16, number: u8) -> Match
-        ensures { result ≡ match_answer self page number }
+    #[tactic(auto, unfolding(crate::specs::Descriptor::match_answer))]
+    pub fn match_answer(&self, logical: Logical) -> Match
+        ensures { result ≡ match_answer self.now logical.page logical.number }
     {
         if self.enabled() {
-            if self.range_match(page) {
-                if self.space_match(number) {
+            if self.range_match(logical.page) {
+                if self.space_match(logical.number) {
                     Match::Yes
                 } else {
                     Match::SpaceDiffers
                 }
-            } else if self.space_match(number) {
+            } else if self.space_match(logical.number) {
                 Match::RangeDiffers
             } else {
                 Match::BothDiffer
@@ -95,37 +106,33 @@ impl Descriptor {
     pub fn physical_page(self, page: u16) -> u16
         ensures { result ≡ physical_page self page }
     {
-        word::gate(self.lam, page, self.pba)
+        masks::gate(self.lam, page, self.pba)
     }
 
-    // Table 3-1.
+    // Table 3-1. A method, as `to_be_bytes` is one: its name says what the array holds.
     pub fn bytes(self) -> [u8; 9]
         ensures { result ≡ bytes self }
     {
+        let [lba_high, lba_low] = self.lba.to_be_bytes();
+        let [lam_high, lam_low] = self.lam.to_be_bytes();
+        let [pba_high, pba_low] = self.pba.to_be_bytes();
         [
-            (self.lba / 256) as u8,
-            (self.lba % 256) as u8,
-            (self.lam / 256) as u8,
-            (self.lam % 256) as u8,
-            (self.pba / 256) as u8,
-            (self.pba % 256) as u8,
-            self.asn,
-            self.ssr,
-            self.asm,
+            lba_high, lba_low, lam_high, lam_low, pba_high, pba_low, self.asn, self.ssr, self.asm,
         ]
     }
 
     // 4.6.3.2. E counts as set in both: a load asks before it enables.
-    fn clashes(self, other: Descriptor) -> bool
-        ensures { result ≡ clashes self other }
+    #[tactic(auto, unfolding(crate::specs::Descriptor::clashes))]
+    fn clashes(&self, other: &Descriptor) -> bool
+        ensures { result ≡ clashes self.now other.now }
     {
-        word::clash(self.lam, self.lba, other.lam, other.lba)
-            && byte::clash(self.asm, self.asn, other.asm, other.asn)
+        masks::clash(self.lam, self.lba, other.lam, other.lba)
+            && masks::clash(self.asm, self.asn, other.asm, other.asn)
     }
 
     // 4.6.3.2: only an enabled descriptor causes a collision.
-    pub fn collides(self, other: Descriptor) -> bool
-        ensures { result ≡ collides self other }
+    pub fn collides(&self, other: &Descriptor) -> bool
+        ensures { result ≡ collides self.now other.now }
     {
         other.enabled() && self.clashes(other)
     }

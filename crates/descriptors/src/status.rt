@@ -33,6 +33,7 @@ pub fn used(ssr: u8) -> u8
 }
 
 // 4.5.3.2: a write sets M.
+#[tactic(auto, using(crate::proofs::Tests::raised), unfolding(crate::specs::Status::modified))]
 pub fn modified(ssr: u8) -> u8
     ensures { result ≡ modified ssr }
 {
@@ -40,6 +41,7 @@ pub fn modified(ssr: u8) -> u8
 }
 
 // 4.6.3.2: the E bit is cleared, and IP with it (3.1.6).
+#[tactic(auto, using(crate::proofs::Tests::lowered), unfolding(crate::specs::Status::disabled))]
 pub fn disabled(ssr: u8) -> u8
     ensures { result ≡ disabled ssr }
 {

@@ -14,7 +14,8 @@ use Rattle.chip.specs.Answer.{first_of, miscounted}
 use Rattle.chip.proofs.Counts.{well_counted}
 use Rattle.image.specs.Block.{size, count, adds_up}
 use Rattle.image.specs.Rules.{own, counted, same_shared, sound}
-use Rattle.image.specs.Image.{blocks, from_block, system_of, across, could_satisfy_01, misfit, refusals_at, refusals, refusal}
+use Rattle.image.specs.Image.{blocks, from_block, system_of, across, could_satisfy_01, misfit, refusals_at, refusal}
+use Rattle.image.proofs.Checked.{refusals_are}
 use Rattle.image.proofs.Refused.{Proper, first_past, first_stays, proper_append, proper_pieces, first_fits, none_of_both, past_row, none_of_pieces}
 
 either : (a b : Bool) → a || b ≡ false → (a ≡ false) × (b ≡ false)
@@ -40,28 +41,25 @@ module _ (image : List ℕ) where
 
   -- a refusal is a byte
   pub refusal_fits : refusal image < 2 ^ 8
-  unfolding refusals
   refusal_fits =
-      first_fits (refusals image) (
+      rw (refusals_are image)
+      (first_fits ((8, misfit (length image)) ∷ pieces (blocks image) (refusals_at image) ++ (10, not (across image)) ∷ []) (
         λ e. omega arith,
         lit< tt,
         proper_append (pieces (blocks image) (refusals_at image)) _ (proper_pieces (blocks image) (refusals_at image) proper) (λ e. omega arith, lit< tt, tt),
-      )
+      ))
 
   pub refusal_length : misfit (length image) ≡ true → refusal image ≡ 8
-  unfolding refusals
-  refusal_length e = rw e refl
+  refusal_length e = rw (refusals_are image, e) refl
 
   pub refusal_block : misfit (length image) ≡ false → first_of (pieces (blocks image) (refusals_at image)) ≢ 0
       → refusal image ≡ first_of (pieces (blocks image) (refusals_at image))
-  unfolding refusals
-  refusal_block e n = rw e (first_stays (pieces (blocks image) (refusals_at image)) _ n)
+  refusal_block e n = rw (refusals_are image, e) (first_stays (pieces (blocks image) (refusals_at image)) _ n)
 
   pub refusal_across : misfit (length image) ≡ false → first_of (pieces (blocks image) (refusals_at image)) ≡ 0
       → refusal image ≡ cond (not (across image)) 10 0
-  unfolding refusals
   refusal_across e z =
-      rw e (first_past (pieces (blocks image) (refusals_at image)) ((10, not (across image)) ∷ []) (proper_pieces (blocks image) (refusals_at image) proper) z)
+      rw (refusals_are image, e) (first_past (pieces (blocks image) (refusals_at image)) ((10, not (across image)) ∷ []) (proper_pieces (blocks image) (refusals_at image) proper) z)
 
 -- ---- acceptance
 module _ (image : List ℕ) where
@@ -92,14 +90,15 @@ module _ (image : List ℕ) where
 
   pub accepted_exactly : (refusal image ≡ 0)
       ↔ ((misfit (length image) ≡ false) × (every (blocks image) (λ m. adds_up (from_block m image)) ≡ true) × (could_satisfy_01 image ≡ true))
-  unfolding refusals could_satisfy_01
+  unfolding could_satisfy_01
   accepted_exactly =
       let rows = pieces (blocks image) (refusals_at image) in
       let last : List (ℕ × Bool) = (10, not (across image)) ∷ [] in
       let fit = past_row 8 (misfit (length image)) (first_of (rows ++ last)) (λ e. omega arith) in
       let two = none_of_both rows last (proper_pieces (blocks image) (refusals_at image) (proper image)) in
       let end = past_row 10 (not (across image)) 0 (λ e. omega arith) in
-      let both = and-eq-true_iff (every (blocks image) fields) (across image) in (
+      let both = and-eq-true_iff (every (blocks image) fields) (across image) in
+      rw (refusals_are image) (
         λ e.
             let rest = two.0 (fit.0 e).1 in
             let pass = blocks_pass.0 rest.0 in

@@ -1,11 +1,16 @@
 pub mod Words
 pub mod Refused
+pub mod Checked
 pub mod Accepted
-pub mod Sound
 pub mod Restored
+pub mod Sound
 pub mod Round
 pub mod Cut
 pub mod Owned
 pub mod Again
 pub mod Back
+pub mod Chunks
+pub mod Listed
+pub mod Front
+pub mod Made
 pub mod Marks

@@ -1,5 +1,5 @@
 -- The end of shift image: document 02, P2. One block for each unit; they stand in order, and block n starts at byte 512 times n.
-use Rattle.std.specs.Prelude.{ℕ, ◌*◌, ◌/◌, ◌%◌, Bool, cond, not, ◌&&◌, ◌||◌, List, [], ◌∷◌, ◌++◌, length, drop, ◌==◌}
+use Rattle.std.specs.Prelude.{ℕ, ◌*◌, ◌/◌, ◌%◌, Bool, cond, not, ◌&&◌, ◌||◌, List, [], ◌∷◌, ◌++◌, length, drop, slice_index_or, ◌==◌, Result, ⊤}
 use Rattle.masks.specs.Fields.{every}
 use Rattle.pieces.specs.Pieces.{pieces}
 use Rattle.chip.specs.System.{present, each}
@@ -8,7 +8,9 @@ use Rattle.chip.specs.Answer.{first_of, miscounted}
 use Rattle.chip.specs.declared.system.System.{System}
 use Rattle.image.specs.Block.{size, adds_up, block, shared_of, unit_of, descriptor_of}
 use Rattle.image.specs.Rules.{own, counted, same_shared, sound}
-use Rattle.image.specs.declared.read.Restored.{Restored}
+use Rattle.image.specs.Refusals.{checked, passed, numbered}
+use Rattle.image.specs.declared.refusal.Refusal.{Refusal}
+use Rattle.image.specs.declared.refusal.Refusal.TheVariants.{Count, Length, Check, Fields}
 
 -- ---- Writing: the image of a system
 unfoldable pub form : System → List ℕ
@@ -31,6 +33,17 @@ system_of i =
       shared = shared_of i;
     }
 
+-- the same, of an image that is cut into its blocks; block m of them
+abbrev pub block_at : (blocks : List (List ℕ)) (m : ℕ) → List ℕ
+block_at bs m = slice_index_or bs m []
+
+unfoldable pub system_in : (blocks : List (List ℕ)) → System
+system_in bs = record {
+  descriptors = each (32 * length bs) (λ k d. descriptor_of (k % 32) (block_at bs (k / 32))) nothing.descriptors;
+  units = each (length bs) (λ m u. unit_of (block_at bs m)) nothing.units;
+  shared = shared_of (block_at bs 0);
+}
+
 -- the rules across blocks
 unfoldable pub across : (image : List ℕ) → Bool
 across i = every (blocks i) (λ m. same_shared i (from_block m i)) && sound (system_of i)
@@ -44,32 +57,42 @@ abbrev pub misfit : (bytes : ℕ) → Bool
 misfit bytes = not (bytes % size == 0) || miscounted (bytes / size)
 
 -- 9: "a block's check", 10: "its fields"; 9 before 10
-abbrev pub block_refusals : (blocks m : ℕ) (block : List ℕ) → List (ℕ × Bool)
-block_refusals n m b = (9, not (adds_up b)) ∷ (10, not (own m b && counted n b)) ∷ []
+abbrev pub block_checks : (blocks m : ℕ) (block : List ℕ) → List (Refusal × Bool)
+block_checks n m b = (Check, not (adds_up b)) ∷ (Fields, not (own m b && counted n b)) ∷ []
 
 -- those of block m of an image
-abbrev pub refusals_at : (image : List ℕ) (m : ℕ) → List (ℕ × Bool)
-refusals_at i m = block_refusals (blocks i) m (from_block m i)
+abbrev pub checks_at : (image : List ℕ) (m : ℕ) → List (Refusal × Bool)
+checks_at i m = block_checks (blocks i) m (from_block m i)
 
 -- "first bad block decides, .. clash and cross-unit rules last as 10"
-unfoldable pub refusals : (image : List ℕ) → List (ℕ × Bool)
-refusals i = (8, misfit (length i)) ∷ pieces (blocks i) (refusals_at i) ++ (10, not (across i)) ∷ []
+unfoldable pub checks : (image : List ℕ) → List (Refusal × Bool)
+checks i = (Length, misfit (length i)) ∷ pieces (blocks i) (checks_at i) ++ (Fields, not (across i)) ∷ []
 
--- an image is accepted where none of these applies
+-- by number; an image is accepted where none of these applies
+abbrev pub refusals_at : (image : List ℕ) (m : ℕ) → List (ℕ × Bool)
+refusals_at i m = numbered (checks_at i m)
+
+unfoldable pub refusals : (image : List ℕ) → List (ℕ × Bool)
+refusals i = numbered (checks i)
+
 abbrev pub refusal : (image : List ℕ) → ℕ
 refusal i = first_of (refusals i)
 
--- what reading it gives: the system, or the refusal and no unit
-abbrev pub refused : (refusal : ℕ) → Restored
-refused r = record { refusal = r; system = nothing }
-
-unfoldable pub restored : (image : List ℕ) → Restored
-restored i = cond (refusal i == 0) (record { refusal = 0; system = system_of i }) (refused (refusal i))
+-- what reading it gives: the system, or the refusal
+unfoldable pub restored : (image : List ℕ) → Result System Refusal
+restored i = checked (checks i) (system_of i)
 
 -- ---- "writing a state that couldn't be read back is 10": the checks of a save, after document 01's on the count
+abbrev pub save_checks : (bytes : ℕ) → System → List (Refusal × Bool)
+save_checks bytes s =
+    (Count, miscounted s.shared.board.count) ∷ (Length, not (bytes == size * s.shared.board.count)) ∷ (Fields, not (sound s)) ∷ []
+
+-- what a save gives, and its refusal by number
+unfoldable pub saving : (bytes : ℕ) → System → Result ⊤ Refusal
+saving bytes s = passed (save_checks bytes s)
+
 abbrev pub save_refusals : (bytes : ℕ) → System → List (ℕ × Bool)
-save_refusals bytes s =
-    (1, miscounted s.shared.board.count) ∷ (8, not (bytes == size * s.shared.board.count)) ∷ (10, not (sound s)) ∷ []
+save_refusals bytes s = numbered (save_checks bytes s)
 
 abbrev pub save_refusal : (bytes : ℕ) → System → ℕ
 save_refusal bytes s = first_of (save_refusals bytes s)

@@ -1,3 +1,4 @@
 pub mod Block
 pub mod Rules
+pub mod Refusals
 pub mod Image

@@ -12,29 +12,28 @@ use registers::unit::Unit;
 // How many bytes a block has.
 pub(crate) const SIZE: usize = 512;
 
+pub(crate) type Block = [u8; SIZE];
+
 // The first n words, added up; carries beyond 16 bits are dropped.
 pub(crate) fn sum(b: &[u8], n: usize) -> u16
     requires { (n ≤ 256) × (2 * n ≤ length b.now) }
     ensures { result ≡ words n b.now % 2 ^ 16 }
 {
-    let mut total = 0u16;
-    for i in 0..n {
-        let word = pieces::join(b[2 * i], b[2 * i + 1]);
-        total = std::num::wrapping_add_u16(total, word);
-    }
-    total
+    b[..2 * n].chunks_exact(2).fold(
+        0,
+        |total: u16, word| total.wrapping_add(pieces::join(word[0], word[1])),
+    )
 }
 
 // What the units share. The count is the block's own.
-pub(crate) fn shared_of(b: &[u8]) -> Shared
-    requires { 512 ≤ length b.now }
+pub(crate) fn shared_of(b: &Block) -> Shared
     ensures { result ≡ shared_of b.now }
 {
     let table = [
         b[2], b[3], b[4], b[5], b[6], b[7], b[8], b[9], b[10], b[11], b[12], b[13], b[14], b[15],
         b[16], b[17],
     ];
-    let gsr = Gsr::of(b[31]);
+    let gsr = Gsr::from(b[31]);
     Shared {
         table,
         gsr,
@@ -45,8 +44,7 @@ pub(crate) fn shared_of(b: &[u8]) -> Shared
     }
 }
 
-pub(crate) fn unit_of(b: &[u8]) -> Unit
-    requires { 512 ≤ length b.now }
+pub(crate) fn unit_of(b: &Block) -> Unit
     ensures { result ≡ unit_of b.now }
 {
     let values = [
@@ -61,8 +59,8 @@ pub(crate) fn unit_of(b: &[u8]) -> Unit
     }
 }
 
-pub(crate) fn descriptor_of(b: &[u8], n: usize) -> Descriptor
-    requires { (n < 32) × (512 ≤ length b.now) }
+pub(crate) fn descriptor_of(b: &Block, n: usize) -> Descriptor
+    requires { n < 32 }
     ensures { result ≡ descriptor_of n b.now }
 {
     let at = 34 + 9 * n;
@@ -78,8 +76,7 @@ pub(crate) fn descriptor_of(b: &[u8], n: usize) -> Descriptor
 }
 
 // The reserved bits of the unit's registers and of GSR.
-fn registers_clear(b: &[u8]) -> bool
-    requires { 512 ≤ length b.now }
+fn registers_clear(b: &Block) -> bool
     ensures { result ≡ registers_clear b.now }
 {
     let marks = pieces::join(b[27], b[28]);
@@ -91,6 +88,7 @@ fn registers_clear(b: &[u8]) -> bool
 }
 
 // RDP's number is zero under NVR.
+#[tactic(auto, unfolding(masks::specs::Fields::bit))]
 fn nvr_alone(rdp: u8) -> bool
     ensures { result ≡ nvr_alone rdp }
 {
@@ -104,33 +102,20 @@ fn allowed(d: Descriptor) -> bool
     (d.ssr / 32 % 4 == 0) & (!d.pending() | d.enabled())
 }
 
-fn statuses_allowed(b: &[u8]) -> bool
-    requires { 512 ≤ length b.now }
+fn statuses_allowed(b: &Block) -> bool
     ensures { result ≡ every 32 (λ n. allowed (ssr n b.now)) }
 {
-    for n in 0..32 {
-        if !allowed(descriptor_of(b, n)) {
-            return false;
-        }
-    }
-    true
+    (0..32).all(|n| allowed(descriptor_of(b, n)))
 }
 
-fn reserved_zero(b: &[u8]) -> bool
-    requires { 512 ≤ length b.now }
+fn reserved_zero(b: &Block) -> bool
     ensures { result ≡ every 188 (λ i. nat_eq (reserved b.now i) 0) }
 {
-    for i in 0..188 {
-        if b[322 + i] != 0 {
-            return false;
-        }
-    }
-    true
+    b[322..510].iter().all(|byte| *byte == 0)
 }
 
 // All of the block's own rules but the count's.
-pub(crate) fn own(b: &[u8], m: usize) -> bool
-    requires { 512 ≤ length b.now }
+pub(crate) fn own(b: &Block, m: usize) -> bool
     ensures { result ≡ own m b.now }
 {
     (b[0] as usize == m)

@@ -5,25 +5,20 @@ ghost use Rattle.descriptors.specs.Descriptor.{zeros, enabled, collides};
 ghost use Rattle.registers.specs.Unit.{no_unit};
 ghost use Rattle.image.specs.Rules.{same_shared, same_marked, agreed, apart, sound};
 
+use crate::block::Block;
 use chip::system::System;
 use descriptors::descriptor::Descriptor;
 use registers::unit::Unit;
 
-fn same_table<'a>(a: &'a [u8], b: &'a [u8]) -> bool
-    requires { (512 ≤ length a.now) × (512 ≤ length b.now) }
+fn same_table<'a>(a: &'a Block, b: &'a Block) -> bool
     ensures { result ≡ every 16 (λ i. nat_eq (slice_index a.now (2 + i)) (slice_index b.now (2 + i))) }
 {
-    for i in 0..16 {
-        if a[2 + i] != b[2 + i] {
-            return false;
-        }
-    }
-    true
+    a[2..18] == b[2..18]
 }
 
 // Equal table, GSR and IVR.
-pub(crate) fn same_shared<'a>(a: &'a [u8], b: &'a [u8]) -> bool
-    requires { (512 ≤ length a.now) × (512 ≤ length b.now) }
+#[tactic(auto, unfolding(crate::specs::Rules::same_shared))]
+pub(crate) fn same_shared<'a>(a: &'a Block, b: &'a Block) -> bool
     ensures { result ≡ same_shared a.now b.now }
 {
     same_table(a, b) & (a[31] == b[31]) & (a[30] == b[30])
@@ -33,69 +28,46 @@ pub(crate) fn same_shared<'a>(a: &'a [u8], b: &'a [u8]) -> bool
 fn same_marked(u: Unit, v: Unit) -> bool
     ensures { result ≡ same_marked u v }
 {
-    let a = u.accumulator;
-    let b = v.accumulator;
-    for i in 0..9 {
-        if a[i].global & b[i].global & (a[i].value != b[i].value) {
-            return false;
-        }
-    }
-    true
+    u.accumulator
+        .iter()
+        .zip(&v.accumulator)
+        .all(|(a, b)| !(a.global & b.global) | (a.value == b.value))
 }
 
-// Unit m with each below it.
-fn agreed_below(units: [Unit; 6], m: usize) -> bool
-    requires { m < 6 }
-    ensures { result ≡ every m (λ k. same_marked (slice_index_or units m no_unit) (slice_index_or units k no_unit)) }
+// A unit with each below it.
+fn agreed_below(below: &[Unit], unit: Unit) -> bool
+    ensures { result ≡ every (length below.now) (λ k. same_marked unit (slice_index_or below.now k no_unit)) }
 {
-    let unit = units[m];
-    for k in 0..m {
-        if !same_marked(unit, units[k]) {
-            return false;
-        }
-    }
-    true
+    below.iter().all(|other| same_marked(unit, *other))
 }
 
 fn agreed(system: System) -> bool
     ensures { result ≡ agreed system }
 {
-    let units = system.units;
-    for m in 0..system.present() {
-        if !agreed_below(units, m) {
-            return false;
-        }
-    }
-    true
+    let n = system.present();
+    let units = &system.units[..n];
+    units
+        .iter()
+        .enumerate()
+        .all(|(m, unit)| agreed_below(&units[..m], *unit))
 }
 
-// The descriptor at place i with each before it, where it is enabled.
-fn apart_below(descriptors: [Descriptor; 192], i: usize) -> bool
-    requires { i < 192 }
-    ensures { result ≡ every i (λ k. not (enabled (slice_index_or descriptors i zeros) && collides (slice_index_or descriptors i zeros) (slice_index_or descriptors k zeros))) }
+// A descriptor with each before it, where it is enabled.
+fn apart_below(before: &[Descriptor], d: Descriptor) -> bool
+    ensures { result ≡ every (length before.now) (λ k. not (enabled d && collides d (slice_index_or before.now k zeros))) }
 {
-    let d = descriptors[i];
-    if !d.enabled() {
-        return true;
-    }
-    for k in 0..i {
-        if d.collides(descriptors[k]) {
-            return false;
-        }
-    }
-    true
+    !d.enabled() || !before.iter().any(|other| d.collides(other))
 }
 
 fn apart(system: System) -> bool
     ensures { result ≡ apart system }
 {
-    let descriptors = system.descriptors;
-    for i in 0..32 * system.present() {
-        if !apart_below(descriptors, i) {
-            return false;
-        }
-    }
-    true
+    let n = 32 * system.present();
+    let descriptors = &system.descriptors[..n];
+    descriptors
+        .iter()
+        .enumerate()
+        .all(|(i, d)| apart_below(&descriptors[..i], *d))
 }
 
 // What a system in its written form can break of the rules.

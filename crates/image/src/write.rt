@@ -5,19 +5,18 @@ ghost use Rattle.descriptors.specs.Descriptor.{zeros, bytes};
 ghost use Rattle.registers.specs.Unit.{ac, marks, held_lsr};
 ghost use Rattle.registers.specs.Shared.{gsr_byte};
 ghost use Rattle.image.specs.Block.{fields, block};
-ghost use Rattle.image.specs.Image.{save_refusal, saved};
+ghost use Rattle.image.specs.Image.{saving, saved};
 
-use crate::{block, read, rules};
+use crate::refusal::Refusal;
+use crate::{block, rules};
 use chip::answer;
 use chip::system::System;
 use descriptors::descriptor::Descriptor;
 use registers::shared::Shared;
 use registers::unit::Unit;
 
-// The refusal of a state with no unit, or with more than six.
-const COUNT: u8 = 1;
-
-// Bytes 0 to 17: the unit number, the count, the table.
+// Bytes 0 to 17: the unit number, the count, the table. That m is below six stands in three contracts: a type for it would be
+// no plainer, since each use is an index.
 fn put_head(b: &mut [u8], m: usize, shared: Shared)
     requires { (m < 6) × (18 ≤ length b.old) }
     ensures { b.new ≡ (m ∷ shared.board.count % 256 ∷ shared.table) ++ drop 18 b.old }
@@ -35,25 +34,24 @@ fn put_unit(b: &mut [u8], u: Unit, shared: Shared)
 {
     let values = u.values();
     b[..9].copy_from_slice(&values);
-    let marks = u.marks();
-    b[9] = (marks / 256) as u8;
-    b[10] = (marks % 256) as u8;
+    let marks = u.marks().to_be_bytes();
+    b[9..11].copy_from_slice(&marks);
     b[11] = u.dp;
     b[12] = shared.ivr;
-    b[13] = shared.gsr.byte();
+    b[13] = u8::from(shared.gsr);
     b[14] = u.held_lsr();
     b[15] = u.rdp;
 }
 
-// Bytes 34 to 321: the 32 descriptors of unit m, the nine bytes of each in accumulator order.
-fn put_descriptors(b: &mut [u8], descriptors: [Descriptor; 192], m: usize)
-    requires { (m < 6) × (288 ≤ length b.old) }
-    ensures { b.new ≡ pieces 32 (λ n. bytes (slice_index_or descriptors (32 * m + n) zeros)) ++ drop 288 b.old }
+// Bytes 34 to 321: the 32 descriptors of a unit, the nine bytes of each in accumulator order.
+// Each is written to its place: of a slice that `chunks_exact_mut` lent, a proof keeps the length alone.
+fn put_descriptors(b: &mut [u8], descriptors: &[Descriptor])
+    requires { 9 * length descriptors.now ≤ length b.old }
+    ensures { b.new ≡ pieces (length descriptors.now) (λ n. bytes (slice_index_or descriptors.now n zeros)) ++ drop (9 * length descriptors.now) b.old }
 {
-    for n in 0..32 {
+    for (n, d) in descriptors.iter().enumerate() {
         let at = 9 * n;
-        let nine = descriptors[32 * m + n].bytes();
-        b[at..at + 9].copy_from_slice(&nine);
+        b[at..at + 9].copy_from_slice(&d.bytes());
     }
 }
 
@@ -65,8 +63,7 @@ fn put_fields(b: &mut [u8], system: System, m: usize)
     let shared = system.shared;
     put_head(b, m, shared);
     put_unit(&mut b[18..], system.units[m], shared);
-    let descriptors = system.descriptors;
-    put_descriptors(&mut b[34..], descriptors, m);
+    put_descriptors(&mut b[34..], &system.descriptors[32 * m..32 * m + 32]);
     pieces::put_zeros(&mut b[322..], 188);
 }
 
@@ -76,11 +73,11 @@ fn put_block(b: &mut [u8], system: System, m: usize)
     ensures { b.new ≡ block system m ++ drop 512 b.old }
 {
     put_fields(b, system, m);
-    let check = std::num::wrapping_sub_u16(0, block::sum(b, 255));
-    b[510] = (check / 256) as u8;
-    b[511] = (check % 256) as u8;
+    let check = 0u16.wrapping_sub(block::sum(b, 255));
+    b[510..512].copy_from_slice(&check.to_be_bytes());
 }
 
+// Each block is written to the part from its place on: of a slice that `chunks_exact_mut` lent, a proof keeps the length alone.
 fn put_blocks(image: &mut [u8], system: System, n: usize)
     requires { (n ≤ 6) × (length image.old ≡ 512 * n) }
     ensures { image.new ≡ pieces n (block system) }
@@ -91,21 +88,21 @@ fn put_blocks(image: &mut [u8], system: System, n: usize)
     }
 }
 
-// Zero, or the refusal, which writes nothing.
-pub fn save(image: &mut [u8], system: System) -> u8
-    ensures value { result ≡ save_refusal (length image.old) system }
+// A refusal writes nothing.
+pub fn save(image: &mut [u8], system: System) -> Result<(), Refusal>
+    ensures value { result ≡ saving (length image.old) system }
     ensures image_after { image.new ≡ saved image.old system }
 {
     let n = system.shared.board.count;
     if answer::miscounted(n) {
-        return COUNT;
+        return Err(Refusal::Count);
     }
     if image.len() != block::SIZE * n {
-        return read::LENGTH;
+        return Err(Refusal::Length);
     }
     if !rules::sound(system) {
-        return read::FIELDS;
+        return Err(Refusal::Fields);
     }
     put_blocks(image, system, n);
-    0
+    Ok(())
 }

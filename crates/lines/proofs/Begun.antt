@@ -2,6 +2,7 @@
 --     begun           a line that has begun, and what is still to come
 --     line_for_line   one line is printed for each
 -- Assumes nothing.
+use Rattle.std.specs.Prelude.{Option, Some, None}
 use Prim.Native.Nat.{ℕ, zero, suc, ◌/◌, ◌%◌}
 use mathlib.Core.Path.{◌≡◌, refl, sym, ap, ◌∙◌}
 use mathlib.Core.Bool.{Bool, true, false, not, ◌&&◌, and-eq-true_iff}
@@ -19,8 +20,7 @@ use Rattle.chip.proofs.Checked.{either}
 use Rattle.lines.specs.Line.{meaning}
 use Rattle.lines.specs.Print.{flag, reason, printed}
 use Rattle.lines.specs.Turn.{told, left, longer, lines, answers}
-use Rattle.lines.specs.declared.line.Line.{Line}
-use Rattle.lines.specs.declared.line.Line.TheVariants.{Called, Bad}
+use Rattle.chip.specs.declared.call.Call.{Call}
 
 -- the lines of an input, of which these bytes came before
 abbrev pub begun : (line : List ℕ) → List (List ℕ) → List (List ℕ)
@@ -91,9 +91,9 @@ printed_fed : (v : Values) (irq : Bool) (rest : List ℕ) → Fed (printed v irq
 unfolding printed
 printed_fed v irq rest = search (either (λ (l : List ℕ). Fed (l ++ rest) rest), feed, next, plain_hex, plain_flag, number_fed, reason_fed) depth 40
 
-told_fed : (l : Line) (s : System) (rest : List ℕ) → Fed (told l s ++ rest) rest
-told_fed (Called c) s rest = printed_fed (values (performed c s).answer) (performed c s).irq rest
-told_fed Bad s rest = next refl (next refl (next refl feed))
+told_fed : (l : Option Call) (s : System) (rest : List ℕ) → Fed (told l s ++ rest) rest
+told_fed (Some c) s rest = printed_fed (values (performed c s).answer) (performed c s).irq rest
+told_fed None s rest = next refl (next refl (next refl feed))
 
 pub line_for_line : (ls : List (List ℕ)) (s : System) → length (lines (answers ls s)) ≡ length ls
 line_for_line [] s = refl

@@ -8,8 +8,18 @@ use native.Mathlib.Nat.{le_of_suc-le-suc, not-suc-le-zero}
 use native.Mathlib.Numerals.{add-one}
 use native.Mathlib.Omega.{arith}
 use lib.ListN.{length, get_or, drop}
+use Rattle.std.specs.List.{list_all, zip}
 use Rattle.lines.specs.Line.{fits_at, fits}
 
+-- a line as long as the form, byte by byte
+pub fits_all : (form line : List ℕ) → length form ≡ length line → list_all (λ (p : ℕ × ℕ). fits_at p.0 p.1) (zip form line) ≡ fits form line
+unfolding fits
+fits_all [] [] e = refl
+fits_all [] (c ∷ line) e = absurd (omega arith)
+fits_all (f ∷ form) [] e = absurd (omega arith)
+fits_all (f ∷ form) (c ∷ line) e = ap (λ (b : Bool). fits_at f c && b) (fits_all form line (omega arith))
+
+-- byte after byte: what stands from a place on
 next : (form line : List ℕ) (i : ℕ) → i < length form → i < length line
     → fits (drop i form) (drop i line) ≡ fits_at (get_or form i 0) (get_or line i 0) && fits (drop (suc i) form) (drop (suc i) line)
 unfolding fits

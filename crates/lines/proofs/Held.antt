@@ -3,6 +3,7 @@
 --     long_bad       no line above 12 bytes has a meaning
 --     told_held      what is told of a line is held in full
 -- Assumes nothing.
+use Rattle.std.specs.Prelude.{Option, Some, None}
 use Prim.Native.Nat.{ℕ, ◌≤◌, ◌<◌}
 use mathlib.Core.Path.{◌≡◌, refl, sym, ap, ◌∙◌}
 use mathlib.Core.Bool.{Bool, true, false}
@@ -24,11 +25,10 @@ use Rattle.chip.proofs.Checked.{either}
 use Rattle.lines.specs.Line.{start_form, write_form, read_form, access_form, acknowledge_form, meaning}
 use Rattle.lines.specs.Print.{flag, reason, printed}
 use Rattle.lines.specs.Turn.{told}
-use Rattle.lines.specs.declared.line.Line.{Line}
-use Rattle.lines.specs.declared.line.Line.TheVariants.{Called, Bad}
+use Rattle.chip.specs.declared.call.Call.{Call}
 use Rattle.lines.proofs.Forms.{fits_length}
 
-pub long_bad : (l : List ℕ) → 12 < length l → meaning l ≡ Bad
+pub long_bad : (l : List ℕ) → 12 < length l → meaning l ≡ None
 unfolding meaning
 long_bad l h =
     rw (
@@ -59,9 +59,9 @@ printed_short : (v : Values) (irq : Bool) → length (printed v irq) ≤ room
 unfolding printed
 printed_short v irq = search (either (λ (l : List ℕ). length l ≤ room), refused_short, reason_short, lit≤) depth 8
 
-told_short : (l : Line) (s : System) → length (told l s) ≤ room
-told_short (Called c) s = printed_short (values (performed c s).answer) (performed c s).irq
-told_short Bad s = lit≤ tt
+told_short : (l : Option Call) (s : System) → length (told l s) ≤ room
+told_short (Some c) s = printed_short (values (performed c s).answer) (performed c s).irq
+told_short None s = lit≤ tt
 
-pub told_held : (l : Line) (s : System) → held (text (told l s)) ≡ told l s
+pub told_held : (l : Option Call) (s : System) → held (text (told l s)) ≡ told l s
 told_held l s = held_short (told l s) (told_short l s)

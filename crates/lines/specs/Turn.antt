@@ -1,5 +1,5 @@
 -- The bench: a line in, a line out, and the whole of what it prints.
-use Rattle.std.specs.Prelude.{ℕ, cond, List, [], ◌∷◌, ◌++◌, eqb}
+use Rattle.std.specs.Prelude.{ℕ, cond, List, [], ◌∷◌, ◌++◌, eqb, Option, Some, None}
 use Rattle.text.specs.Ascii.{line_feed}
 use Rattle.text.specs.Text.{text}
 use Rattle.chip.specs.Answer.{values}
@@ -8,21 +8,20 @@ use Rattle.chip.specs.Reset.{nothing}
 use Rattle.chip.specs.declared.system.System.{System}
 use Rattle.lines.specs.Line.{meaning}
 use Rattle.lines.specs.Print.{printed, bad}
-use Rattle.lines.specs.declared.line.Line.{Line}
-use Rattle.lines.specs.declared.line.Line.TheVariants.{Called, Bad}
+use Rattle.chip.specs.declared.call.Call.{Call}
 use Rattle.lines.specs.declared.turn.Turn.{Turn}
 
 -- what is printed for a line, and the system after it: a bad line changes nothing
-abbrev pub told : Line → System → List ℕ
-told (Called c) s = printed (values (performed c s).answer) (performed c s).irq
-told Bad s = bad
+abbrev pub told : Option Call → System → List ℕ
+told (Some c) s = printed (values (performed c s).answer) (performed c s).irq
+told None s = bad
 
-abbrev pub left : Line → System → System
-left (Called c) s = (performed c s).system
-left Bad s = s
+abbrev pub left : Option Call → System → System
+left (Some c) s = (performed c s).system
+left None s = s
 
-abbrev pub turn : Line → System → Turn
-turn l s = record { text = text (told l s); system = left l s }
+abbrev pub turn : Option Call → System → Turn
+turn c s = record { text = text (told c s); system = left c s }
 
 -- the lines of an input: each ends with a line feed, which the last may lack
 abbrev pub longer : (byte : ℕ) → List (List ℕ) → List (List ℕ)

@@ -5,14 +5,7 @@ ghost use Rattle.lines.specs.Line.{fits_at, fits, byte_at, address_at, unit, dir
 use chip::access::Cycle;
 use chip::call::Call;
 use chip::register::Operation;
-use chip::reset::Selected;
 use text::digits;
-
-#[derive(Clone, Copy)]
-pub enum Line {
-    Called(Call),
-    Bad,
-}
 
 fn fits_at(form: u8, c: u8) -> bool
     ensures { result ≡ fits_at form c }
@@ -21,10 +14,7 @@ fn fits_at(form: u8, c: u8) -> bool
         b'n' => digits::decimal(c),
         b'm' => digits::decimal(c) || c == b'-',
         b'h' => digits::hex(c),
-        b'r' => match c {
-            b'R' | b'W' | b'M' => true,
-            _ => false,
-        },
+        b'r' => matches!(c, b'R' | b'W' | b'M'),
         _ => c == form,
     }
 }
@@ -32,16 +22,11 @@ fn fits_at(form: u8, c: u8) -> bool
 fn fits(form: &[u8], line: &[u8]) -> bool
     ensures { result ≡ fits form.now line.now }
 {
-    let n = form.len();
-    if line.len() != n {
-        return false;
-    }
-    for i in 0..n {
-        if !fits_at(form[i], line[i]) {
-            return false;
-        }
-    }
-    true
+    form.len() == line.len()
+        && form
+            .iter()
+            .zip(line.iter())
+            .all(|(form, c)| fits_at(*form, *c))
 }
 
 fn byte_at(line: &[u8], i: usize) -> u16
@@ -60,39 +45,38 @@ fn address_at(line: &[u8], i: usize) -> u64
         + byte_at(line, i + 4) as u64
 }
 
-fn unit(c: u8) -> Selected
+// By functions, and no `From`, here and below: the byte and the type are both of other crates.
+fn unit(c: u8) -> Option<u64>
     ensures { result ≡ unit c }
 {
     if c == b'-' {
-        Selected::Nobody
+        None
     } else {
-        Selected::Unit(digits::digit(c) as u64)
+        Some(digits::digit(c) as u64)
     }
 }
 
 fn direction(c: u8) -> Cycle
     ensures { result ≡ direction c }
 {
-    if c == b'R' {
-        Cycle::Read
-    } else if c == b'M' {
-        Cycle::ReadModifyWrite
-    } else {
-        Cycle::Write
+    match c {
+        b'R' => Cycle::Read,
+        b'M' => Cycle::ReadModifyWrite,
+        _ => Cycle::Write,
     }
 }
 
 // One function for each form: what a line of that form asks for.
-fn start(line: &[u8]) -> Line
+fn start(line: &[u8]) -> Call
     requires { 5 ≤ length line.now }
     ensures { result ≡ start_of line.now }
 {
     let count = digits::digit(line[2]) as u64;
     let selected = unit(line[4]);
-    Line::Called(Call::Start { count, selected })
+    Call::Start { count, selected }
 }
 
-fn write(line: &[u8]) -> Line
+fn write(line: &[u8]) -> Call
     requires in_bounds { 9 ≤ length line.now }
     requires line_bound { byte_at line.now 7 < 256 }
     ensures { result ≡ write_of line.now }
@@ -100,66 +84,67 @@ fn write(line: &[u8]) -> Line
     let unit = digits::digit(line[2]) as u64;
     let address = byte_at(line, 4) as u64;
     let operation = Operation::Write(byte_at(line, 7) as u8);
-    Line::Called(Call::Register {
+    Call::Register {
         unit,
         address,
         operation,
-    })
+    }
 }
 
-fn read(line: &[u8]) -> Line
+fn read(line: &[u8]) -> Call
     requires { 6 ≤ length line.now }
     ensures { result ≡ read_of line.now }
 {
     let unit = digits::digit(line[2]) as u64;
     let address = byte_at(line, 4) as u64;
-    Line::Called(Call::Register {
+    Call::Register {
         unit,
         address,
         operation: Operation::Read,
-    })
+    }
 }
 
-fn access(line: &[u8]) -> Line
+fn access(line: &[u8]) -> Call
     requires { 12 ≤ length line.now }
     ensures { result ≡ access_of line.now }
 {
     let function_code = digits::digit(line[2]) as u64;
     let cycle = direction(line[4]);
     let address = address_at(line, 6);
-    Line::Called(Call::Access {
+    Call::Access {
         function_code,
         cycle,
         address,
-    })
+    }
 }
 
-fn acknowledge(line: &[u8]) -> Line
+fn acknowledge(line: &[u8]) -> Call
     requires { 3 ≤ length line.now }
     ensures { result ≡ acknowledge_of line.now }
 {
-    Line::Called(Call::Acknowledge {
+    Call::Acknowledge {
         unit: digits::digit(line[2]) as u64,
-    })
+    }
 }
 
-pub(crate) fn parse(line: &[u8]) -> Line
+// Test by test, and no table: each form has a function of its own, which asks for the length that its test has shown.
+pub(crate) fn parse(line: &[u8]) -> Option<Call>
     ensures { result ≡ meaning line.now }
 {
     if fits(b"S n m", line) {
-        return start(line);
+        return Some(start(line));
     }
     if fits(b"W n hh hh", line) {
-        return write(line);
+        return Some(write(line));
     }
     if fits(b"G n hh", line) {
-        return read(line);
+        return Some(read(line));
     }
     if fits(b"T h r hhhhhh", line) {
-        return access(line);
+        return Some(access(line));
     }
     if fits(b"A n", line) {
-        return acknowledge(line);
+        return Some(acknowledge(line));
     }
-    Line::Bad
+    None
 }

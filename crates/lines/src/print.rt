@@ -1,12 +1,13 @@
-// What an answer prints as: document 01, "The bench program".
+// What an answer prints as: document 01, "The bench program". By hand, and no `Display`: of `{:X}` the library promises no bytes.
 ghost use Rattle.std.specs.Prelude.{◌≡◌, ◌∷◌, ◌++◌};
 ghost use Rattle.text.specs.Ascii.{ascii};
 ghost use Rattle.text.specs.Digits.{hex_byte, hex_address};
 ghost use Rattle.text.specs.Text.{with_bytes, text};
-ghost use Rattle.lines.specs.Print.{flag, ended, named, place, reason, printed, bad};
+ghost use Rattle.lines.specs.Print.{flag, ended, named, placed, reason, printed, bad};
+ghost use Rattle.chip.specs.Answer.{values, carrying, undefined};
 
-use chip::answer;
-use chip::answer::Values;
+use chip::answer::Answer;
+use chip::search::Place;
 use text::{Text, digits};
 
 fn flag(b: bool) -> u8
@@ -15,14 +16,14 @@ fn flag(b: bool) -> u8
     if b { b'1' } else { b'0' }
 }
 
-fn named(text: Text, values: Values) -> Text
-    ensures { result ≡ with_bytes text (named values) }
+fn named(text: Text, place: Place) -> Text
+    ensures { result ≡ with_bytes text (named place.unit place.descriptor) }
 {
     text.with_bytes(&[
-        digits::hex_digit(values.unit as u32),
+        digits::hex_digit(place.unit as u32),
         b' ',
-        digits::hex_digit((values.descriptor / 16) as u32),
-        digits::hex_digit(values.descriptor as u32),
+        digits::hex_digit((place.descriptor / 16) as u32),
+        digits::hex_digit(place.descriptor as u32),
     ])
 }
 
@@ -33,21 +34,20 @@ fn ended(text: Text, irq: bool) -> Text
     text.with_bytes(&[b' ', flag(irq), b'\n'])
 }
 
-fn place(text: Text, values: Values, irq: bool) -> Text
-    ensures { result ≡ with_bytes text (place values irq) }
+fn placed(text: Text, place: Place, win: bool, irq: bool) -> Text
+    ensures { result ≡ with_bytes text (placed place.unit place.descriptor win irq) }
 {
-    let text = named(text, values).with_bytes(&[b' ', flag(values.win)]);
+    let text = named(text, place).with_bytes(&[b' ', flag(win)]);
     ended(text, irq)
 }
 
 // P4: after U's IRQ.
-fn reason(text: Text, values: Values) -> Text
-    ensures { result ≡ with_bytes text (reason values) }
+fn reason(text: Text, near: Option<Place>) -> Text
+    ensures { result ≡ with_bytes text (reason (carrying undefined near 0)) }
 {
-    if values.near {
-        named(text, values)
-    } else {
-        text.with_bytes(b"- --")
+    match near {
+        Some(place) => named(text, place),
+        None => text.with_bytes(b"- --"),
     }
 }
 
@@ -93,20 +93,21 @@ pub(crate) fn bad() -> Text
 }
 
 #[tactic(auto, unfolding(crate::specs::Print::printed))]
-pub(crate) fn print(values: Values, irq: bool) -> Text
-    ensures { result ≡ text (printed values irq) }
+pub(crate) fn print(answer: Answer, irq: bool) -> Text
+    ensures { result ≡ text (printed (values answer) irq) }
 {
-    if values.number != 0 {
-        return Text::of(b"no ")
-            .with_number(values.number)
-            .with_bytes(b"\n");
-    }
-    let kind = values.kind;
-    match kind {
-        answer::MAPPED => place(mapped(values.address), values, irq),
-        answer::VIOLATION => place(Text::of(b"V "), values, irq),
-        answer::UNDEFINED => reason(undefined(irq), values).with_bytes(b"\n"),
-        answer::BYTE => ended(read(values.byte), irq),
-        _ => ended(Text::of(b"ok"), irq),
+    match answer {
+        Answer::Refused(refusal) => Text::of(b"no ")
+            .with_number(refusal.number())
+            .with_bytes(b"\n"),
+        Answer::Done => ended(Text::of(b"ok"), irq),
+        Answer::Byte { byte, .. } => ended(read(byte), irq),
+        Answer::Mapped {
+            address,
+            place,
+            win,
+        } => placed(mapped(address), place, win, irq),
+        Answer::Violation { place, win } => placed(Text::of(b"V "), place, win, irq),
+        Answer::Undefined(near) => reason(undefined(irq), near).with_bytes(b"\n"),
     }
 }

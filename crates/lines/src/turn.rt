@@ -4,7 +4,7 @@ ghost use Rattle.lines.specs.Line.{meaning};
 ghost use Rattle.text.specs.Text.{held};
 ghost use Rattle.lines.specs.Turn.{turn};
 
-use crate::line::Line;
+use chip::call::Call;
 use chip::system::System;
 use text::Text;
 
@@ -15,7 +15,7 @@ pub struct Turn {
     pub system: System,
 }
 
-fn read(line: Text) -> Line
+fn read(line: Text) -> Option<Call>
     ensures { result ≡ meaning (held line) }
 {
     let length = line.length;
@@ -28,14 +28,13 @@ pub fn answer(line: Text, system: System) -> Turn
     ensures { result ≡ turn (meaning (held line)) system }
 {
     match read(line) {
-        Line::Called(call) => {
+        Some(call) => {
             let outcome = system.perform(call);
-            let answer = outcome.answer;
-            let text = crate::print::print(answer.values(), outcome.irq);
+            let text = crate::print::print(outcome.answer, outcome.irq);
             let system = outcome.system;
             Turn { text, system }
         }
-        Line::Bad => {
+        None => {
             let text = crate::print::bad();
             Turn { text, system }
         }

@@ -1,8 +1,10 @@
 -- What a bit is after each operation, a number as the field of its bits, and a rule at every bit position.
 --     bit-and, bit-or, bit-xor, bit_not     the bits of a result, from the operands' bits
 --     field_fits, bit_field, field_bits     a field fits its width, has the bits that it was made of, and a number is the field of its bits
+--     zero_test                             a number is zero exactly where none of its bits is a one
 --     every_at                              a rule holds of a field exactly when it holds at each position
 --     and_field, or_field, bit_test         a number under a mask, and with its bits set; the test by and with a power of two tells a bit
+--     test_of, clear_of, set_of             the same as the code writes the power, and as a branch has found it
 -- Assumes nothing.
 use mathlib.Core.Path.{◌≡◌, refl, sym, ap, ◌∙◌}
 use mathlib.Core.Logic.{◌↔◌, ⊎_elim}
@@ -14,7 +16,7 @@ use native.Mathlib.Omega.{arith}
 use lib.Dec.{eqb}
 use lib.Pow.{pow_pos, high, low, field as pow-field, mod-mod-pow, mod-pow-add}
 use lib.Bits.{bit_and, bit_or, bit_xor, and_shr, and_mod, or_shr, or_mod, xor_shr, xor_mod, and_le_r, and_high, or_lt}
-use borrow.Author.Tests.{ne_eqb}
+use borrow.Author.Tests.{eq-eqb, ne_eqb}
 use Rattle.masks.specs.Fields.{bit, every, field}
 
 -- ---- the bits of a result: an operation that works on each digit apart works on each bit apart
@@ -129,6 +131,10 @@ field_zero (suc w) p = go (p w) (field_zero w p)
     go true e = ne_eqb (1 * 2 ^ w + field w p) 0 (omega (arith, pow_pos w))
     go false e = rw (zero-mul, zero-add) e
 
+-- a number is zero exactly where none of its bits is a one
+pub zero_test : (w x : ℕ) → x < 2 ^ w → eqb x 0 ≡ every w (λ i. not (bit x i))
+zero_test w x h = ap (λ (n : ℕ). eqb n 0) (sym (field_bits w x h)) ∙ field_zero w (bit x)
+
 -- ---- a rule that holds at every position
 pub every_at : (w : ℕ) (p : ℕ → Bool) → (every w p ≡ true) ↔ ((i : ℕ) → i < w → p i ≡ true)
 unfolding every
@@ -170,3 +176,13 @@ bit_test x i = ap (λ (n : ℕ). not (eqb n 0)) alone ∙ go (x / 2 ^ i % 2) (mo
     go zero h = rw zero-mul
     go (suc zero) h = ap not (ne_eqb (1 * 2 ^ i) 0 (omega (arith, pow_pos i)))
     go (suc (suc d)) h = absurd (omega arith)
+
+-- the same for the power as the code has it, a number
+pub test_of : (x i m : ℕ) → m ≡ 2 ^ i → not (eqb (bit_and x m) 0) ≡ bit x i
+test_of x i m e = rw e (bit_test x i)
+
+pub clear_of : (x i m : ℕ) → bit_and x m ≡ 0 → m ≡ 2 ^ i → bit x i ≡ false
+clear_of x i m q e = sym (test_of x i m e) ∙ ap not (eq-eqb _ _ q)
+
+pub set_of : (x i m : ℕ) → (bit_and x m ≡ 0 → ⊥) → m ≡ 2 ^ i → bit x i ≡ true
+set_of x i m q e = sym (test_of x i m e) ∙ ap not (ne_eqb _ _ q)

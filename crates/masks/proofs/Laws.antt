@@ -1,10 +1,11 @@
 -- The laws of fields under a mask, each stated and proved over the width w.
 --     agree_at       agreement, said of each bit position
---     agree_test     the test by xor and and decides agreement
+--     agree_bits     that no bit of the xor is left under the mask decides agreement
+--     agree_test     and so does the test that the xor under the mask is zero
 --     gate_fits      the value made from two fields by a mask fits the width
 --     gate_masked    that value, computed by masks, is the one made bit by bit
 --     clash_at       a clash, said of each bit position
---     clash_test     the test by xor and and, under what two masks have in common, decides the clash
+--     clash_bits, clash_test    the same under what two masks have in common decides the clash
 --     clash_value    where two fields clash, the value in hand that agrees with both
 --     clash_of       where some value agrees with both, the two clash
 --     clash_exists   so two fields clash exactly when some value of the width agrees with both
@@ -18,7 +19,7 @@ use lib.Dec.{eqb}
 use lib.Pow.{ones_sub-lt}
 use lib.Bits.{bit_and, bit_or, bit_xor, and_le_r, or_lt}
 use Rattle.masks.specs.Fields.{bit, every, alike, agree, clash, gate}
-use Rattle.masks.proofs.Bits.{bit-and, bit-or, bit-xor, bit_not, bit_field, field_bits, field_cong, field_fits, field_zero, every_at}
+use Rattle.masks.proofs.Bits.{bit-and, bit-or, bit-xor, bit_not, bit_field, field_bits, field_cong, field_fits, zero_test, every_at}
 
 -- ---- agreement
 
@@ -47,12 +48,12 @@ unmasked true false = refl
 unmasked false true = refl
 unmasked false false = refl
 
-pub agree_test : (w m a b : ℕ) → m < 2 ^ w → eqb (bit_and (bit_xor a b) m) 0 ≡ agree w m a b
+pub agree_bits : (w m a b : ℕ) → every w (λ i. not (bit (bit_and (bit_xor a b) m) i)) ≡ agree w m a b
 unfolding agree alike xor
-agree_test w m a b h =
-    ap (λ (n : ℕ). eqb n 0) (sym (field_bits w _ (lt_of_le_of_lt (and_le_r (bit_xor a b) m) h)))
-    ∙ field_zero w (bit (bit_and (bit_xor a b) m))
-    ∙ ap (every w) (fun_ext λ i. simp (bit-and, bit-xor) (unmasked (bit m i) (beq (bit a i) (bit b i))))
+agree_bits w m a b = ap (every w) (fun_ext λ i. simp (bit-and, bit-xor) (unmasked (bit m i) (beq (bit a i) (bit b i))))
+
+pub agree_test : (w m a b : ℕ) → m < 2 ^ w → eqb (bit_and (bit_xor a b) m) 0 ≡ agree w m a b
+agree_test w m a b h = zero_test w _ (lt_of_le_of_lt (and_le_r (bit_xor a b) m) h) ∙ agree_bits w m a b
 
 -- ---- the gated value
 
@@ -78,11 +79,13 @@ gate_masked w m a b hm =
 
 -- ---- clash
 
-pub clash_test : (w m a n b : ℕ) → n < 2 ^ w → eqb (bit_and (bit_xor a b) (bit_and m n)) 0 ≡ clash w m a n b
+pub clash_bits : (w m a n b : ℕ) → every w (λ i. not (bit (bit_and (bit_xor a b) (bit_and m n)) i)) ≡ clash w m a n b
 unfolding agree clash
+clash_bits w m a n b = agree_bits w (bit_and m n) a b ∙ ap (λ (c : ℕ → Bool). alike w c a b) (fun_ext (bit-and m n))
+
+pub clash_test : (w m a n b : ℕ) → n < 2 ^ w → eqb (bit_and (bit_xor a b) (bit_and m n)) 0 ≡ clash w m a n b
 clash_test w m a n b h =
-    agree_test w (bit_and m n) a b (lt_of_le_of_lt (and_le_r m n) h)
-    ∙ ap (λ (c : ℕ → Bool). alike w c a b) (fun_ext (bit-and m n))
+    zero_test w _ (lt_of_le_of_lt (and_le_r (bit_xor a b) (bit_and m n)) (lt_of_le_of_lt (and_le_r m n) h)) ∙ clash_bits w m a n b
 
 either : (c x y : Bool) → (c ≡ true → x ≡ y) → cond c x y ≡ y
 either true x y h = h refl

@@ -1,10 +1,10 @@
 -- A store into a list, a list of one thing, and a list by its elements.
 --     stored         what holds of each element holds after a store of something of which it holds
 --     everywhere     a list of one thing has it everywhere, if it is what stands past the end too
---     listed_as, taken_listed, at_listed, length_listed, listed_alike      a list, or its first n, is that of its elements; what stands in it
+--     listed_as, taken_listed, at_listed, length_listed, listed_alike, listed_by      a list, or its first n, is that of its elements; what stands in it
 -- Assumes nothing.
 use Prim.Native.Nat.{ℕ, zero, suc, ◌<◌, ◌≤◌}
-use mathlib.Core.Path.{◌≡◌, refl, ap, ap₂, subst}
+use mathlib.Core.Path.{◌≡◌, refl, sym, ap, ap₂, subst, ◌∙◌}
 use mathlib.Core.List.{List, [], ◌∷◌}
 use native.Mathlib.Nat.{le_of_suc-le-suc, not-suc-le-zero}
 use native.Mathlib.Omega.{arith}
@@ -50,3 +50,6 @@ pub listed_alike : {A : Type 0} (n : ℕ) (f g : ℕ → A) → ((i : ℕ) → i
 listed_alike zero f g h = refl
 listed_alike (suc n) f g h =
     ap₂ (λ x (r : List _). x ∷ r) (h 0 (omega arith)) (listed_alike n (λ i. f (suc i)) (λ i. g (suc i)) (λ i k. h (suc i) (omega arith)))
+
+pub listed_by : {A : Type 0} (d : A) (n : ℕ) (l : List A) (f : ℕ → A) → length l ≡ n → ((i : ℕ) → i < n → get_or l i d ≡ f i) → l ≡ list_of n f
+listed_by d n l f e h = sym (listed_as d n l e) ∙ listed_alike n (λ i. get_or l i d) f h

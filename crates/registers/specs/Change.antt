@@ -10,5 +10,5 @@ changed (Dp value) u = write_dp value u
 changed (Lsr value) u = write_lsr value u
 changed (L l) u = with_l u l
 changed (Rw rw) u = with_rw u rw
-changed (Latch page number) u = latch page number u
+changed (Latch logical) u = latch logical.page logical.number u
 changed (Report l rdp) u = report l rdp u

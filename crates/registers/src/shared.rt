@@ -40,23 +40,28 @@ impl Gsr {
             ie: self.ie,
         }
     }
+}
 
-    // 3.2.3: as it is written.
-    pub fn of(value: u8) -> Gsr
-        ensures { result ≡ gsr_of value }
-    {
+// 3.2.3: as it is written.
+impl From<u8> for Gsr {
+    ghost from_gives = { λ value r. r ≡ gsr_of value };
+
+    #[tactic(auto, using(masks::proofs::Bits::test_of))]
+    fn from(value: u8) -> Gsr {
         Gsr {
             f: value & F != 0,
             df: value & DF != 0,
             ie: value & IE != 0,
         }
     }
+}
 
-    // 3.2.3: as it is read.
-    pub fn byte(self) -> u8
-        ensures { result ≡ gsr_byte self }
-    {
-        128 * (self.f as u8) + 64 * (self.df as u8) + self.ie as u8
+// 3.2.3: as it is read.
+impl From<Gsr> for u8 {
+    ghost from_gives = { λ gsr r. r ≡ gsr_byte gsr };
+
+    fn from(gsr: Gsr) -> u8 {
+        128 * u8::from(gsr.f) + 64 * u8::from(gsr.df) + u8::from(gsr.ie)
     }
 }
 
@@ -77,17 +82,15 @@ impl Shared {
         self
     }
 
-    pub fn with_gsr(mut self, gsr: Gsr) -> Shared
+    pub fn with_gsr(self, gsr: Gsr) -> Shared
         ensures { result ≡ with_gsr self gsr }
     {
-        self.gsr = gsr;
-        self
+        Shared { gsr, ..self }
     }
 
-    pub fn with_ivr(mut self, ivr: u8) -> Shared
+    pub fn with_ivr(self, ivr: u8) -> Shared
         ensures { result ≡ with_ivr self ivr }
     {
-        self.ivr = ivr;
-        self
+        Shared { ivr, ..self }
     }
 }

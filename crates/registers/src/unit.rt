@@ -6,10 +6,11 @@ ghost use Rattle.registers.specs.Unit.{with_byte, with_dp, with_rdp, with_l, wit
 ghost use Rattle.registers.specs.Unit.{translated, held_lsr, lsr};
 ghost use Rattle.registers.specs.Change.{changed};
 
-use descriptors::descriptor::Descriptor;
+use descriptors::descriptor::{Descriptor, Logical};
 use descriptors::status;
 
-// 3.2.4: what the last event was, in L7 to L4.
+// 3.2.4: what the last event was, in L7 to L4. Numbers and no enum: a write of the LSR may leave any four bits there (`l_of`), and
+// an image holds them.
 pub const NO: u8 = 0b0000;
 
 pub const DT: u8 = 0b1000;
@@ -20,7 +21,7 @@ pub const USA: u8 = 0b1010;
 
 pub const WV: u8 = 0b1100;
 
-// 3.2.6, 3.2.7: no valid result, no valid interrupt.
+// 3.2.6, 3.2.7: no valid result, no valid interrupt. A byte and no `Option`: the registers are read as bytes, as `rdp_of` has them.
 pub const NONE: u8 = 0x80;
 
 const RW: u8 = 1 << 3;
@@ -48,7 +49,8 @@ pub enum Bytes {
     Load,
 }
 
-// What an event does to every unit alike.
+// What an event does to every unit alike. By name, and no closure: of a closure a promise can say only which results it may have, so
+// that each call would show again what its change does.
 #[derive(Clone, Copy)]
 pub enum Change {
     Ac(usize, u8),
@@ -56,7 +58,7 @@ pub enum Change {
     Lsr(u8),
     L(u8),
     Rw(bool),
-    Latch(u16, u8),
+    Latch(Logical),
     Report(u8, u8),
 }
 
@@ -74,6 +76,7 @@ pub fn l_of(value: u8) -> u8
     value / 16
 }
 
+#[tactic(auto, using(masks::proofs::Bits::test_of))]
 pub fn rw_of(value: u8) -> bool
     ensures { result ≡ rw_of value }
 {
@@ -89,6 +92,7 @@ fn local(value: u8) -> Byte
     }
 }
 
+#[tactic(auto, unfolding(masks::specs::Fields::bit))]
 fn marked(value: u8, marks: u16, i: usize) -> Byte
     requires { i < 9 }
     ensures { result ≡ marked value marks i }
@@ -103,17 +107,7 @@ fn marked(value: u8, marks: u16, i: usize) -> Byte
 pub fn accumulator_of(values: [u8; 9], marks: u16) -> [Byte; 9]
     ensures { result ≡ accumulator_of values marks }
 {
-    [
-        marked(values[0], marks, 0),
-        marked(values[1], marks, 1),
-        marked(values[2], marks, 2),
-        marked(values[3], marks, 3),
-        marked(values[4], marks, 4),
-        marked(values[5], marks, 5),
-        marked(values[6], marks, 6),
-        marked(values[7], marks, 7),
-        marked(values[8], marks, 8),
-    ]
+    std::array::from_fn(|i| marked(values[i], marks, i))
 }
 
 impl Unit {
@@ -126,32 +120,29 @@ impl Unit {
         self
     }
 
-    fn with_dp(mut self, dp: u8) -> Unit
+    // One setter for each register: a field is nothing that a parameter can name.
+    fn with_dp(self, dp: u8) -> Unit
         ensures { result ≡ with_dp self dp }
     {
-        self.dp = dp;
-        self
+        Unit { dp, ..self }
     }
 
-    fn with_rdp(mut self, rdp: u8) -> Unit
+    fn with_rdp(self, rdp: u8) -> Unit
         ensures { result ≡ with_rdp self rdp }
     {
-        self.rdp = rdp;
-        self
+        Unit { rdp, ..self }
     }
 
-    fn with_l(mut self, l: u8) -> Unit
+    fn with_l(self, l: u8) -> Unit
         ensures { result ≡ with_l self l }
     {
-        self.l = l;
-        self
+        Unit { l, ..self }
     }
 
-    fn with_rw(mut self, rw: bool) -> Unit
+    fn with_rw(self, rw: bool) -> Unit
         ensures { result ≡ with_rw self rw }
     {
-        self.rw = rw;
-        self
+        Unit { rw, ..self }
     }
 
     // 3.2.4, 3.2.6: what the last event left.
@@ -162,29 +153,33 @@ impl Unit {
     }
 
     // 4.5.3.3.
-    fn latch(self, page: u16, number: u8) -> Unit
-        ensures { result ≡ latch page number self }
+    fn latch(self, logical: Logical) -> Unit
+        ensures { result ≡ latch logical.page logical.number self }
     {
-        self.with_byte(0, local((page / 256) as u8))
-            .with_byte(1, local((page % 256) as u8))
-            .with_byte(6, local(number))
+        let [high, low] = logical.page.to_be_bytes();
+        self.with_byte(0, local(high))
+            .with_byte(1, local(low))
+            .with_byte(6, local(logical.number))
     }
 
     // 4.6.2.3. No byte is marked.
-    pub fn take(mut self, d: Descriptor) -> Unit
+    pub fn take(self, d: Descriptor) -> Unit
         ensures { result ≡ take d self }
     {
-        let accumulator = accumulator_of(d.bytes(), 0);
-        self.accumulator = accumulator;
-        self
+        let accumulator = d.bytes().map(local);
+        Unit {
+            accumulator,
+            ..self
+        }
     }
 
     // 4.6.3.3.
     pub fn translated(self, page: u16, number: u8) -> Unit
         ensures { result ≡ translated page number self }
     {
-        self.with_byte(4, local((page / 256) as u8))
-            .with_byte(5, local((page % 256) as u8))
+        let [high, low] = page.to_be_bytes();
+        self.with_byte(4, local(high))
+            .with_byte(5, local(low))
             .with_dp(number)
             .report(DT, number)
     }
@@ -204,7 +199,7 @@ impl Unit {
             Change::Lsr(value) => self.with_l(l_of(value)).with_rw(rw_of(value)),
             Change::L(l) => self.with_l(l),
             Change::Rw(rw) => self.with_rw(rw),
-            Change::Latch(page, number) => self.latch(page, number),
+            Change::Latch(logical) => self.latch(logical),
             Change::Report(l, rdp) => self.report(l, rdp),
         }
     }
@@ -219,60 +214,50 @@ impl Unit {
         }
     }
 
-    // 3.2.4: GAT.
+    // 3.2.4: GAT. An array for each of the two, and no list that both share: a search of such a list costs a load 250 instructions.
     fn gat(self) -> bool
         ensures { result ≡ consistent for_translation self }
     {
-        let a = self.accumulator;
-        a[0].global & a[1].global & a[6].global
+        [0, 1, 6].iter().all(|&i| self.accumulator[i].global)
     }
 
-    // 3.2.4: GAL.
+    // 3.2.4: GAL, which asks more than GAT.
     fn gal(self) -> bool
         ensures { result ≡ consistent for_load self }
     {
-        let a = self.accumulator;
-        a[0].global & a[1].global & a[2].global & a[3].global & a[6].global & a[8].global
+        self.gat() && [2, 3, 8].iter().all(|&i| self.accumulator[i].global)
     }
 
     // 3.2.2: the nine bytes.
     pub fn values(self) -> [u8; 9]
         ensures { result ≡ list_of 9 (ac self) }
     {
-        let a = self.accumulator;
-        [
-            a[0].value, a[1].value, a[2].value, a[3].value, a[4].value, a[5].value, a[6].value,
-            a[7].value, a[8].value,
-        ]
+        self.accumulator.map(|byte| byte.value)
     }
 
-    // 3.2.4: the marks, AC0's in bit 0. A nested sum, as `field` is one.
+    // 3.2.4: the marks, AC0's in bit 0.
     pub fn marks(self) -> u16
         ensures { result ≡ marks self }
     {
-        let a = self.accumulator;
-        (a[8].global as u16) * 256
-            + ((a[7].global as u16) * 128
-                + ((a[6].global as u16) * 64
-                    + ((a[5].global as u16) * 32
-                        + ((a[4].global as u16) * 16
-                            + ((a[3].global as u16) * 8
-                                + ((a[2].global as u16) * 4
-                                    + ((a[1].global as u16) * 2 + a[0].global as u16)))))))
+        let mut marks = 0;
+        for (i, byte) in self.accumulator.iter().enumerate() {
+            marks |= u16::from(byte.global) << i;
+        }
+        marks
     }
 
     // 3.2.4: what a unit holds of its LSR; the other bits are worked out.
     pub fn held_lsr(self) -> u8
         ensures { result ≡ held_lsr self }
     {
-        16 * (self.l % 16) + 8 * (self.rw as u8)
+        16 * (self.l % 16) + 8 * u8::from(self.rw)
     }
 
     // 3.2.4: the register as it is read.
     pub fn lsr(self, lip: bool) -> u8
         ensures { result ≡ lsr self lip }
     {
-        self.held_lsr() + 4 * (self.gat() as u8) + 2 * (self.gal() as u8) + lip as u8
+        self.held_lsr() + 4 * u8::from(self.gat()) + 2 * u8::from(self.gal()) + u8::from(lip)
     }
 
     // 3.2.2.

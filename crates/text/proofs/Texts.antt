@@ -14,6 +14,7 @@ use native.Mathlib.Omega.{arith}
 use lib.Dec.{ltb}
 use lib.ListN.{length, take, set, length-set}
 use lib.Seq.{take_all, take-suc-set, take_at, append_snoc, length-take-le}
+use Rattle.std.specs.Prelude.{fold}
 use borrow.Author.Tests.{ne_eqb, ltb-true, ltb-false}
 use Rattle.text.specs.Text.{room, empty, is_empty, pushed, with_bytes, text, held}
 use Rattle.text.specs.declared.Text.{Text}
@@ -56,6 +57,11 @@ held_short bs h = held_text bs ∙ take_all room bs h
 pub with_append : (t : Text) (xs ys : List ℕ) → with_bytes t (xs ++ ys) ≡ with_bytes (with_bytes t xs) ys
 with_append t [] ys = refl
 with_append t (x ∷ xs) ys = with_append (pushed t x) xs ys
+
+-- the bytes pushed in turn
+pub folded : (t : Text) (bs : List ℕ) → fold pushed t bs ≡ with_bytes t bs
+folded t [] = refl
+folded t (b ∷ bs) = folded (pushed t b) bs
 
 pub text_snoc : (t : Text) (bs : List ℕ) (b : ℕ) → with_bytes t (bs ++ b ∷ []) ≡ pushed (with_bytes t bs) b
 text_snoc t bs b = with_append t bs (b ∷ [])

@@ -5,34 +5,35 @@ ghost use Rattle.text.specs.Digits.{decimal, hex, digit, byte_of, hex_digit};
 pub fn decimal(c: u8) -> bool
     ensures { result ≡ decimal c }
 {
-    b'0' <= c && c <= b'9'
+    c.is_ascii_digit()
 }
 
+// In capitals alone: `is_ascii_hexdigit` takes small letters too.
 pub fn hex(c: u8) -> bool
     ensures { result ≡ hex c }
 {
-    decimal(c) || (b'A' <= c && c <= b'F')
+    matches!(c, b'0'..=b'9' | b'A'..=b'F')
 }
 
+// Of any byte: what is no digit has a value here, and none in `to_digit`.
 pub fn digit(c: u8) -> u8
     ensures { result ≡ digit c }
 {
-    if c < b'0' {
-        return 0;
-    }
     if c < b'A' {
-        return c - b'0';
+        c.saturating_sub(b'0')
+    } else {
+        c - b'A' + 10
     }
-    c - b'A' + 10
 }
 
 // Above a byte only where one of the two is no digit.
 pub fn byte_of(high: u8, low: u8) -> u16
     ensures { result ≡ byte_of high low }
 {
-    16 * (digit(high) as u16) + digit(low) as u16
+    16 * u16::from(digit(high)) + u16::from(digit(low))
 }
 
+// In capitals, which the digits of the library are not.
 pub fn hex_digit(n: u32) -> u8
     ensures { result ≡ hex_digit n }
 {

@@ -9,7 +9,8 @@ ghost use Rattle.text.specs.Text.{empty, is_empty, pushed, with_bytes, text};
 // Room for the longest line that is printed, and for more than the longest that has a meaning.
 const ROOM: usize = 22;
 
-// The first `length` bytes are held. It goes by value: it is small.
+// The first `length` bytes are held. A length beside its bytes, and no `String`, as the project has no heap. It goes by value: it
+// is small.
 #[derive(Clone, Copy)]
 pub struct Text {
     pub bytes: [u8; ROOM],
@@ -33,6 +34,7 @@ impl Text {
     }
 
     // No line that is longer has a meaning, so a byte that has no room may be dropped.
+    #[tactic(auto, unfolding(crate::specs::Text::pushed))]
     pub fn push(mut self, byte: u8) -> Text
         ensures { result ≡ pushed self byte }
     {
@@ -44,15 +46,13 @@ impl Text {
         self
     }
 
-    pub fn with_bytes(mut self, bytes: &[u8]) -> Text
+    pub fn with_bytes(self, bytes: &[u8]) -> Text
         ensures { result ≡ with_bytes self bytes.now }
     {
-        for i in 0..bytes.len() {
-            self = self.push(bytes[i]);
-        }
-        self
+        bytes.iter().copied().fold(self, Text::push)
     }
 
+    // No `From`: what has no room is lost.
     pub fn of(bytes: &[u8]) -> Text
         ensures { result ≡ text bytes.now }
     {
@@ -62,11 +62,11 @@ impl Text {
     pub fn with_number(self, n: u8) -> Text
         ensures { result ≡ with_bytes self (decimal_number n) }
     {
-        let ones = digits::hex_digit((n % 10) as u32);
+        let ones = digits::hex_digit(u32::from(n % 10));
         if n < 10 {
             return self.push(ones);
         }
-        let tens = digits::hex_digit((n / 10 % 10) as u32);
+        let tens = digits::hex_digit(u32::from(n / 10 % 10));
         self.push(tens).push(ones)
     }
 }

@@ -1,10 +1,8 @@
 -- `cleftromi_restore` meets its contract: the block's length, then what the image is read as. Assumes nothing.
-use borrow.Author.Tests.{eq-eqb, ne_eqb}
-use mathlib.Core.Path.{◌≡◌, refl, sym, ap, ◌∙◌}
-use mathlib.Core.Logic.{◌≢◌}
-use Rattle.image.specs.Image.{refusal}
-use Rattle.image.specs.declared.read.Restored.{Restored}
-use Rattle.image.proofs.Restored.{restored_refusal, restored_system}
+use Rattle.std.proofs.Common.{◌≡◌, sym, refl, ap, ◌∙◌}
+use Rattle.image.specs.Refusals.{number, by_number}
+use Rattle.image.specs.Image.{refusal, system_of}
+use Rattle.image.proofs.Restored.{number_counts, restored_refusal, restored_system}
 use Rattle.cleftromi.specs.Interface.{restore_answer, restore_after}
 use Rattle.cleftromi.proofs.cleftromi_restore.Goals as goal
 
@@ -12,19 +10,20 @@ pub returns-then-short : goal.returns-then-short
 unfolding restore_answer restore_after
 returns-then-short c = rw (sym c.short.ensures ∙ c.if-short.true) record { value = refl; state_after = refl }
 
-pub returns-then-refusal-ne0 : goal.returns-then-refusal-ne0
+pub returns-in-Err : goal.returns-in-Err
 unfolding restore_answer restore_after
-returns-then-refusal-ne0 c =
+returns-in-Err c =
     let image = c.args.image.now in
-    let told = ap (λ (r : Restored). r.refusal) c.restore-restored.ensures ∙ restored_refusal image in
-    let some : refusal image ≢ 0 = λ e. c.if-refusal-ne0.true (told ∙ e) in
-    rw (sym c.short.ensures ∙ c.if-short.false, ne_eqb (refusal image) 0 some) record { value = told; state_after = refl }
+    let r = c.in-Err.refusal in
+    let told : refusal image ≡ number r = sym (restored_refusal image) ∙ ap by_number (sym c.restore.ensures ∙ c.in-Err.is) in
+    rw (sym c.short.ensures ∙ c.if-short.false, told, number_counts r)
+    record { value = c.from.ensures ∙ c.number.ensures; state_after = refl }
 
-pub returns : goal.returns
+pub returns-in-Ok : goal.returns-in-Ok
 unfolding restore_answer restore_after
-returns c =
+returns-in-Ok c =
     let image = c.args.image.now in
-    let none : refusal image ≡ 0 = sym (ap (λ (r : Restored). r.refusal) c.restore-restored.ensures ∙ restored_refusal image) ∙ c.if-refusal-ne0.false in
-    let system = ap (λ (r : Restored). r.system) c.restore-restored.ensures ∙ restored_system image none in
-    rw (sym c.short.ensures ∙ c.if-short.false, eq-eqb (refusal image) 0 none, ← system, ← c.granted.ensures)
-    c.finish.ensures
+    let given = sym c.restore.ensures ∙ c.in-Ok.is in
+    let none : refusal image ≡ 0 = sym (restored_refusal image) ∙ ap by_number given in
+    let system : c.in-Ok.system ≡ system_of image = restored_system image _ given in
+    rw (sym c.short.ensures ∙ c.if-short.false, none, ← system, ← c.granted.ensures) c.finish.ensures

@@ -1,7 +1,9 @@
 -- `cleftromi_save` meets its contract: the block's length, then what image checks and writes. Assumes nothing.
-use borrow.Author.Tests.{eq-eqb, ne_eqb}
-use mathlib.Core.Path.{refl, sym, ◌∙◌}
-use Rattle.image.specs.Image.{saved}
+use Rattle.std.proofs.Common.{◌≡◌, length, sym, refl, ap, ◌∙◌}
+use Rattle.block.specs.Layout.{read}
+use Rattle.image.specs.Refusals.{number, by_number}
+use Rattle.image.specs.Image.{save_refusal, saved}
+use Rattle.image.proofs.Restored.{number_counts, saving_refusal}
 use Rattle.cleftromi.specs.Interface.{save_answer, save_after, save_image}
 use Rattle.cleftromi.proofs.cleftromi_save.Goals as goal
 
@@ -9,17 +11,25 @@ pub returns-then-short : goal.returns-then-short
 unfolding save_answer save_after save_image
 returns-then-short c = rw (sym c.short.ensures ∙ c.if-short.true) record { value = refl; state_after = refl; image_after = refl }
 
-pub returns-then-refusal-ne0 : goal.returns-then-refusal-ne0
+pub returns-in-Err : goal.returns-in-Err
 unfolding save_answer save_after save_image saved
-returns-then-refusal-ne0 c =
-    let image = rw (← c.save-refusal.ensures.value, ne_eqb _ 0 c.if-refusal-ne0.true) at c.save-refusal.ensures.image_after in
-    rw (sym c.short.ensures ∙ c.if-short.false, ← c.read-system.ensures, ← c.save-refusal.ensures.value, ne_eqb _ 0 c.if-refusal-ne0.true)
-    record { value = refl; state_after = refl; image_after = image }
+returns-in-Err c =
+    let r = c.in-Err.refusal in
+    let told : save_refusal (length c.args.image.now) (read c.args.state.now) ≡ number r =
+    rw (← c.read-system.ensures) (sym (saving_refusal (length c.args.image.now) _) ∙ ap by_number (sym c.save.ensures.value ∙ c.in-Err.is)) in
+    let image = rw (c.read-system.ensures, told, number_counts r) at c.save.ensures.image_after in
+    rw (sym c.short.ensures ∙ c.if-short.false, told, number_counts r)
+    record { value = c.from.ensures ∙ c.number.ensures; state_after = refl; image_after = image }
 
-pub returns : goal.returns
+pub returns-in-Ok : goal.returns-in-Ok
 unfolding save_answer save_after save_image saved
-returns c =
-    let none = c.if-refusal-ne0.false in
-    let image = rw (← c.save-refusal.ensures.value, eq-eqb _ 0 none) at c.save-refusal.ensures.image_after in
-    rw (sym c.short.ensures ∙ c.if-short.false, ← c.read-system.ensures, ← c.save-refusal.ensures.value, eq-eqb _ 0 none, ← c.granted.ensures)
-    record { value = c.finish.ensures.value; state_after = c.finish.ensures.state_after; image_after = image }
+returns-in-Ok c =
+    let none : save_refusal (length c.args.image.now) (read c.args.state.now) ≡ 0 =
+    rw (← c.read-system.ensures) (sym (saving_refusal (length c.args.image.now) _) ∙ ap by_number (sym c.save.ensures.value ∙ c.in-Ok.is)) in
+    let image = rw (c.read-system.ensures, none) at c.save.ensures.image_after in
+    rw (sym c.short.ensures ∙ c.if-short.false, none)
+    record {
+      value = rw (← c.read-system.ensures, ← c.granted.ensures) c.finish.ensures.value;
+      state_after = rw (← c.read-system.ensures, ← c.granted.ensures) c.finish.ensures.state_after;
+      image_after = image;
+    }

@@ -1,20 +1,26 @@
--- `units_of` meets its contract: the units below m are read. Assumes nothing.
-use native.Mathlib.Omega.{arith}
-use mathlib.Core.Path.{◌∙◌}
-use lib.ListN.{length-take, length-drop}
+-- `units_of` meets its contract: the first units are read, the others are as they were. Assumes nothing.
+use Rattle.std.proofs.Common.{◌≡◌, refl, length, take, drop, length-take-le, arith}
 use Rattle.registers.specs.Unit.{no_unit}
+use Rattle.chip.specs.System.{each}
+use Rattle.chip.specs.Reset.{nothing}
+use Rattle.chip.proofs.Each.{each_more, each_front}
 use Rattle.pieces.proofs.Parts.{rest}
-use Rattle.chip.proofs.Each.{begun, next, ended}
+use Rattle.block.specs.Layout.{unit_place, unit_of}
 use Rattle.block.proofs.read.units_of.Goals as goal
 
+pub loop-m-init : goal.loop-m-init
+unfolding each
+loop-m-init c = refl
+
 pub loop-m-preserved : goal.loop-m-preserved
-loop-m-preserved c = next no_unit _ _ c.loop-m.invariant (omega arith) (c.unit_of.ensures ∙ rw rest)
+loop-m-preserved c =
+    let at = c.loop-m in
+    rw (c.unit_of.ensures, rest, at.invariant) (each_more no_unit at.m (λ k u. unit_of (drop (unit_place k) c.args.b.now)) _)
 
 pub returns : goal.returns
-returns c = ended _ _ _ c.loop-m.invariant c.loop-m-test.false (rw c.nothing-nothing.ensures)
-
-pub loop-m-init : goal.loop-m-init
-loop-m-init c = begun _ _
-
-pub unit_of-requires : goal.unit_of-requires
-unit_of-requires c = simp (length-take, length-drop) (omega arith)
+returns c =
+    let at = c.loop-m in
+    let n = c.args.n in
+    let front : length (take n c.nothing.result.units) ≡ n = rw c.nothing.ensures (length-take-le n nothing.units (omega arith)) in
+    let all : at.m ≡ n = omega (arith, front, at.auto.m-end, c.loop-m-test.false) in
+    rw (at.invariant, all, c.nothing.ensures, each_front)

@@ -1,7 +1,5 @@
 -- `put_descriptors` meets its contract: a piece of 9 bytes in each turn. Assumes nothing.
-use native.Mathlib.Omega.{arith}
-use mathlib.Core.Path.{refl}
-use lib.ListN.{length-take, length-drop}
+use Rattle.std.proofs.Common.{refl, arith, length-take, length-drop}
 use Rattle.block.specs.Layout.{descriptor_bytes}
 use Rattle.pieces.proofs.Parts.{begun, next, ended}
 use Rattle.block.proofs.write.put_descriptors.Goals as goal

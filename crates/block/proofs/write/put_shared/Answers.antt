@@ -21,8 +21,8 @@ unfolding shared_bytes
 returns c =
     let h = c.args.shared in
     let e = c.args.b.now in
-    let b : List ℕ = stored c.put_zeros.new.b h c.byte.result in
+    let b : List ℕ = stored c.put_zeros.new.b h c.from.result in
     let front : List ℕ = h.board.count % 256 ∷ gsr_byte h.gsr ∷ h.ivr ∷ replicate 13 0 in
-    let written : b ≡ front ++ drop 16 e = rw (c.put_zeros.ensures ∙ zeroed_front 16 e (omega arith), c.byte.ensures) in
+    let written : b ≡ front ++ drop 16 e = rw (c.put_zeros.ensures ∙ zeroed_front 16 e (omega arith), c.from.ensures) in
     let size : length h.table ≡ 16 = search rules in
     (replaced front h.table e b c.copy_from_slice.new.self 16 16 32 (refl, written) size refl c.copy_from_slice.ensures.after).1

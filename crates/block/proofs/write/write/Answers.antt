@@ -1,4 +1,5 @@
 -- `write` meets its contract: one part after the other, from the front. Assumes nothing.
+use borrow.Author.Rules.{rules}
 use borrow.Author.Tests.{lt-ltb, le-ltb}
 use native.Mathlib.Omega.{arith}
 use mathlib.Core.List.{List, ◌++◌}
@@ -12,6 +13,7 @@ use Rattle.registers.specs.Unit.{no_unit}
 use Rattle.block.specs.Layout.{unit_bytes, descriptor_bytes, shared_bytes, form, written}
 use Rattle.pieces.specs.Pieces.{pieces}
 use Rattle.pieces.proofs.Parts.{Front, further, further_zeros, length_pieces}
+use Rattle.block.proofs.Written.{of_first}
 use Rattle.block.proofs.write.write.Goals as goal
 
 pub returns-then-b-lt-SIZE : goal.returns-then-b-lt-SIZE
@@ -31,9 +33,15 @@ returns c =
     let p₄ : List ℕ = pieces (32 * n) (λ i. descriptor_bytes (get_or s.descriptors i zeros)) in
     let p₅ : List ℕ = replicate (3968 - 288 * n) 0 in
     let h₀ : Front (take 128 e) 128 e e = (simp length-take (omega arith), sym (take-append-drop 128 e)) in
+    let all_units : length s.units ≡ 6 = search rules in
+    let all_descriptors : length s.descriptors ≡ 192 = search rules in
+    let m_units : length (take n s.units) ≡ n = simp length-take (omega arith) in
+    let m_descriptors : length (take (32 * n) s.descriptors) ≡ 32 * n = simp length-take (omega arith) in
+    let put₄ = rw (of_first zeros (λ d. descriptor_bytes d) (32 * n) s.descriptors (omega arith), m_descriptors) at c.put_descriptors.ensures in
+    let put₂ = rw (of_first no_unit (λ u. unit_bytes u) n s.units (omega arith), m_units) at c.put_units.ensures in
     let h₄ =
     further (take 128 e) p₄ e e c.put_descriptors.new.b 128 (9 * (32 * n)) (128 + 288 * n) h₀
-    (length_pieces 9 _ (λ i. refl) (32 * n)) (omega arith) c.put_descriptors.ensures in
+    (length_pieces 9 _ (λ i. refl) (32 * n)) (omega arith) put₄ in
     let h₅ =
     further_zeros (take 128 e ++ p₄) e _ c.put_zeros.new.b (128 + 288 * n) (3968 - 288 * n) 4096 h₄
     long (omega arith) c.put_zeros.ensures in
@@ -46,7 +54,7 @@ returns c =
     let h₁ : Front p₁ 32 b₂ c.put_shared.new.b = (size, put) in
     let h₂ =
     further p₁ p₂ b₂ _ c.put_units.new.b 32 (16 * n) (32 + 16 * n) h₁
-    (length_pieces 16 _ (λ m. refl) n) refl c.put_units.ensures in
+    (length_pieces 16 _ (λ m. refl) n) refl put₂ in
     let h₃ =
     further_zeros (p₁ ++ p₂) b₂ _ c.put_zeros-2.new.b (32 + 16 * n) (16 * (6 - n)) 128 h₂
     enough (omega arith) c.put_zeros-2.ensures in

@@ -1,30 +1,21 @@
 -- `statuses_allowed` meets its contract: descriptor after descriptor. Assumes nothing.
-use Rattle.std.proofs.Common.{◌≡◌, ℕ, List, sym, refl, ◌∙◌, arith, get_or-drop}
-use Rattle.masks.proofs.Every.{begun, next, failed, ended}
-use Rattle.descriptors.specs.declared.descriptor.Descriptor.{Descriptor}
+use Rattle.std.proofs.Common.{◌≡◌, ℕ, List, get_or, refl, ◌∙◌, arith, get_or-drop, rules, tests}
+use Rattle.std.specs.List.{range_with_len}
+use Rattle.std.proofs.lemmas.Iterator.{YieldsList-from_range}
+use Rattle.std.proofs.lemmas.Iterator.Search.{all_from_yields_List}
+use Rattle.std.proofs.lemmas.List.FromFn.{get_or-range_with_len}
 use Rattle.image.specs.Block.{ssr, descriptor_of}
 use Rattle.image.specs.Rules.{allowed}
+use Rattle.image.proofs.Listed.{all_is}
 use Rattle.image.proofs.block.statuses_allowed.Goals as goal
 
 -- the status of a descriptor that was read
-same : (n : ℕ) (b : List ℕ) (d : Descriptor) → d ≡ descriptor_of n b → allowed d.ssr ≡ allowed (ssr n b)
+same : (b : List ℕ) (n : ℕ) → allowed (descriptor_of n b).ssr ≡ allowed (ssr n b)
 unfolding descriptor_of
-same n b d e = rw (e, get_or-drop) refl
-
-pub loop-n-init : goal.loop-n-init
-loop-n-init c = begun
-
-pub returns-then-not-allowed : goal.returns-then-not-allowed
-returns-then-not-allowed c =
-    let at = c.loop-n in
-    let told = c.allowed.ensures ∙ same at.n _ _ c.descriptor_of.ensures in
-    failed at.invariant (omega arith) (sym told ∙ c.if-not-allowed.true)
-
-pub loop-n-preserved : goal.loop-n-preserved
-loop-n-preserved c =
-    let at = c.loop-n in
-    let told = c.allowed.ensures ∙ same at.n _ _ c.descriptor_of.ensures in
-    next at.invariant (omega arith) (sym told ∙ c.if-not-allowed.false)
+same b n = rw get_or-drop refl
 
 pub returns : goal.returns
-returns c = ended c.loop-n.invariant c.loop-n-test.false
+returns c =
+    let b = c.args.b.now in
+    all_from_yields_List (λ n. allowed (descriptor_of n b).ssr) _ _ c.all.result c.all.ensures.ran (YieldsList-from_range 0 32 32 (cc) refl) (λ x r q k. search (rules, tests))
+    ∙ all_is 0 (λ n. allowed (descriptor_of n b).ssr) (range_with_len 0 32) 32 _ refl (λ k l. let at : get_or (range_with_len 0 32) k 0 ≡ k = get_or-range_with_len 0 32 k 0 l ∙ omega arith in rw at (same b k))

@@ -1,40 +1,36 @@
 -- `examined` meets its contract: block after block, the first bad one decides. Assumes nothing.
-use Rattle.std.proofs.Common.{◌≡◌, ℕ, ◌-◌, ◌*◌, List, length, take, sym, refl, ◌∙◌, arith, length-drop, length-take}
+use Rattle.std.proofs.Common.{◌≡◌, ℕ, Bool, List, length, sym, refl, ap, ◌∙◌, arith}
+use Rattle.std.proofs.lemmas.Result.{err_from_is_err_and}
 use Rattle.pieces.specs.Pieces.{pieces}
-use Rattle.pieces.proofs.Parts.{rest}
-use Rattle.chip.specs.Answer.{first_of}
-use Rattle.image.specs.Image.{blocks, from_block, block_refusals, refusals_at}
-use Rattle.image.proofs.Refused.{one_more, stopped}
-use Rattle.image.proofs.Accepted.{proper}
+use Rattle.image.specs.declared.refusal.Refusal.{Refusal}
+use Rattle.image.specs.Refusals.{passed}
+use Rattle.image.specs.Image.{block_at, block_checks}
+use Rattle.image.proofs.Checked.{one_more, stopped}
 use Rattle.image.proofs.read.examined.Goals as goal
 
--- the refusal of a block, as of one of an image
-as_of : (image : List ℕ) (n m r : ℕ) → length image ≡ 512 * n
-    → r ≡ first_of (block_refusals n m (take (length image - 512 * m) (from_block m image))) → r ≡ first_of (refusals_at image m)
-as_of image n m r l e = let count : n ≡ blocks image = omega arith in e ∙ rw (rest, count) refl
+-- the checks of block m
+abbrev table : (blocks : List (List ℕ)) (m : ℕ) → List (Refusal × Bool)
+table bs m = block_checks (length bs) m (block_at bs m)
 
 pub loop-m-init : goal.loop-m-init
 unfolding pieces
 loop-m-init c = (omega arith, refl)
 
-pub returns-then-refusal-ne0 : goal.returns-then-refusal-ne0
-returns-then-refusal-ne0 c =
+pub returns-in_err-block_refusal : goal.returns-in_err-block_refusal
+returns-in_err-block_refusal c =
     let at = c.loop-m in
-    let image = c.args.image.now in
-    let refused = as_of image c.args.n at.m _ (omega arith) c.block_refusal-refusal.ensures in
-    refused ∙ stopped (refusals_at image) (proper image) _ at.m (omega arith) at.invariant.1 (λ e. c.if-refusal-ne0.true (refused ∙ e))
+    let bs = c.args.blocks.now in
+    let told = err_from_is_err_and c.from_residual.result c.from_residual.ensures.1 in
+    let refused = sym c.block_refusal.ensures ∙ c.in_err-block_refusal.was in
+    rw (told.1, told.2) (sym (stopped (table bs) (length bs) at.m _ (omega arith) at.invariant.1 refused))
 
 pub loop-m-preserved : goal.loop-m-preserved
 loop-m-preserved c =
     let at = c.loop-m in
-    let image = c.args.image.now in
-    let refused = as_of image c.args.n at.m _ (omega arith) c.block_refusal-refusal.ensures in
-    (omega arith, one_more (refusals_at image) (proper image) at.m at.invariant.1 (sym refused ∙ c.if-refusal-ne0.false))
+    let passed = sym c.block_refusal.ensures ∙ c.in_ok-block_refusal.was in
+    (omega arith, one_more (table c.args.blocks.now) at.m at.invariant.1 passed)
 
 pub returns : goal.returns
 returns c =
-    let all : c.loop-m.m ≡ c.args.n = omega arith in
-    rw (← all) (sym c.loop-m.invariant.1)
-
-pub block_refusal-refusal-requires : goal.block_refusal-refusal-requires
-block_refusal-refusal-requires c = simp (length-take, length-drop) (omega arith)
+    let all : c.loop-m.m ≡ length c.args.blocks.now = omega arith in
+    sym (ap (λ (k : ℕ). passed (pieces k (table c.args.blocks.now))) (sym all) ∙ c.loop-m.invariant.1)

@@ -1,12 +1,9 @@
 -- What the loop of `examined` keeps.
-use Rattle.std.proofs.Common.{◌≡◌, ◌-◌, ◌≤◌}
+use Rattle.std.proofs.Common.{◌≡◌, ◌≤◌, length, Ok}
 use Rattle.pieces.specs.Pieces.{pieces}
-use Rattle.chip.specs.Answer.{first_of}
-use Rattle.image.specs.Image.{refusals_at}
+use Rattle.image.specs.Refusals.{passed}
+use Rattle.image.specs.Image.{block_at, block_checks}
 use Rattle.image.proofs.read.examined.Given as goal
 
 abbrev pub invariant-loop-m : goal.invariant-loop-m
-invariant-loop-m l = (l.m ≤ l.n) × (first_of (pieces l.m (refusals_at l.image)) ≡ 0)
-
-abbrev pub decreases-loop-m : goal.decreases-loop-m
-decreases-loop-m l = l.n - l.m
+invariant-loop-m l = (l.m ≤ length l.blocks) × (passed (pieces l.m (λ m. block_checks (length l.blocks) m (block_at l.blocks m))) ≡ Ok tt)

@@ -1,18 +1,16 @@
--- `units_of` meets its contract: the units below m are read. Assumes nothing.
-use Rattle.std.proofs.Common.{◌∙◌, arith, length-drop, length-take}
-use Rattle.pieces.proofs.Parts.{rest}
+-- `units_of` meets its contract: a unit is read of each block. Assumes nothing.
+use Rattle.std.proofs.Common.{ℕ, cond, ltb, length, get_or, rules, tests}
 use Rattle.registers.specs.Unit.{no_unit}
-use Rattle.chip.proofs.Each.{begun, next, ended}
+use Rattle.registers.specs.declared.unit.Unit.{Unit}
+use Rattle.chip.specs.Reset.{nothing}
+use Rattle.image.specs.Block.{unit_of}
+use Rattle.image.specs.Image.{block_at}
+use Rattle.image.proofs.Made.{made_of, made_is}
 use Rattle.image.proofs.read.units_of.Goals as goal
 
-pub loop-m-preserved : goal.loop-m-preserved
-loop-m-preserved c = next no_unit _ _ c.loop-m.invariant (omega arith) (c.unit_of.ensures ∙ rw rest)
-
 pub returns : goal.returns
-returns c = ended _ _ _ c.loop-m.invariant c.loop-m-test.false (rw c.nothing-nothing.ensures)
-
-pub loop-m-init : goal.loop-m-init
-loop-m-init c = begun _ _
-
-pub unit_of-requires : goal.unit_of-requires
-unit_of-requires c = simp (length-take, length-drop) (omega arith)
+returns c =
+    let bs = c.args.blocks.now in
+    let unit : ℕ → Unit = λ m. cond (ltb m (length bs)) (unit_of (block_at bs m)) (get_or nothing.units m no_unit) in
+    made_is no_unit (length bs) (λ m. unit_of (block_at bs m)) _ nothing.units c.from_fn.ensures.items.long
+    (made_of _ _ unit (λ i y q k. search (rules, tests)) _ no_unit _ c.from_fn.ensures.items)

@@ -1,16 +1,14 @@
 -- `agreed_below` meets its contract: unit after unit. Assumes nothing.
-use Rattle.std.proofs.Common.{sym, ◌∙◌, arith}
-use Rattle.masks.proofs.Every.{begun, next, failed, ended}
+use Rattle.std.proofs.Common.{refl, ◌∙◌, rules, tests}
+use Rattle.std.proofs.lemmas.Iterator.{YieldsList-from_slice}
+use Rattle.std.proofs.lemmas.Iterator.Search.{all_from_yields_List}
+use Rattle.registers.specs.Unit.{no_unit}
+use Rattle.image.specs.Rules.{same_marked}
+use Rattle.image.proofs.Listed.{all_is}
 use Rattle.image.proofs.rules.agreed_below.Goals as goal
 
-pub loop-k-init : goal.loop-k-init
-loop-k-init c = begun
-
-pub returns-then-not-same_marked : goal.returns-then-not-same_marked
-returns-then-not-same_marked c = failed c.loop-k.invariant (omega arith) (sym c.same_marked.ensures ∙ c.if-not-same_marked.true)
-
-pub loop-k-preserved : goal.loop-k-preserved
-loop-k-preserved c = next c.loop-k.invariant (omega arith) (sym c.same_marked.ensures ∙ c.if-not-same_marked.false)
-
 pub returns : goal.returns
-returns c = ended c.loop-k.invariant c.loop-k-test.false
+returns c =
+    let test = same_marked c.args.unit in
+    all_from_yields_List test _ _ c.all.result c.all.ensures.ran (YieldsList-from_slice c.args.below.now cc) (λ x b q k. search (rules, tests))
+    ∙ all_is no_unit test c.args.below.now _ _ refl (λ k l. refl)

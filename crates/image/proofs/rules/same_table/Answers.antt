@@ -1,16 +1,13 @@
 -- `same_table` meets its contract: entry after entry. Assumes nothing.
-use Rattle.std.proofs.Common.{arith, eq-eqb, ne_eqb}
-use Rattle.masks.proofs.Every.{begun, next, failed, ended}
+use Rattle.std.proofs.Common.{take, drop, eqb, refl, ◌∙◌, arith, get_or-drop, length-drop, length-take}
+use Rattle.std.proofs.lemmas.List.{get_or-take}
+use Rattle.image.proofs.Listed.{same_is}
 use Rattle.image.proofs.rules.same_table.Goals as goal
 
-pub loop-i-init : goal.loop-i-init
-loop-i-init c = begun
-
-pub returns-then-a-i : goal.returns-then-a-i
-returns-then-a-i c = failed c.loop-i.invariant (omega arith) (ne_eqb _ _ c.if-a-i.true)
-
-pub loop-i-preserved : goal.loop-i-preserved
-loop-i-preserved c = next c.loop-i.invariant (omega arith) (eq-eqb _ _ c.if-a-i.false)
-
 pub returns : goal.returns
-returns c = ended c.loop-i.invariant c.loop-i-test.false
+returns c =
+    let a = drop 2 c.args.a.now in
+    let b = drop 2 c.args.b.now in
+    c.eq.ensures
+    ∙ same_is 0 eqb (take 16 a) (take 16 b) 16 _ (simp (length-take, length-drop) (omega arith)) (simp (length-take, length-drop) (omega arith))
+    (λ k l. rw (get_or-take 16 a k 0 l, get_or-take 16 b k 0 l, get_or-drop, get_or-drop) refl)

@@ -1,33 +1,21 @@
--- `fits` meets its contract: the bytes before i fit. Assumes nothing.
-use mathlib.Core.Path.{◌≡◌, refl, sym, ◌∙◌}
-use native.Mathlib.Omega.{arith}
-use lib.ListN.{length}
-use Rattle.lines.proofs.Forms.{fits_next, fits_end, fits_length}
+-- `fits` meets its contract: it is as long, and each byte fits. Assumes nothing.
+use Rattle.std.proofs.Common.{ℕ, sym, ◌∙◌, rules}
+use borrow.Author.Tests.{tests, ne_eqb}
+use Rattle.std.proofs.lemmas.Iterator.{YieldsList-from_slice, YieldsList-from_zip}
+use Rattle.std.proofs.lemmas.Iterator.Consumers.{YieldsList-at}
+use Rattle.std.proofs.lemmas.Iterator.Search.{all_from_yields_List}
+use Rattle.lines.specs.Line.{fits_at}
+use Rattle.lines.proofs.Forms.{fits_all, fits_length}
 use Rattle.lines.proofs.line.fits.Goals as goal
 
-pub returns-then-line-n : goal.returns-then-line-n
-returns-then-line-n c = sym (fits_length _ _ c.if-line-n.true)
+pub returns-then-form-line : goal.returns-then-form-line
+returns-then-form-line c =
+    let form = c.args.form.now in
+    let line = c.args.line.now in
+    all_from_yields_List (λ (p : ℕ × ℕ). fits_at p.0 p.1) c.all.new.self _ c.all.result c.all.ensures.ran
+    (YieldsList-from_zip (YieldsList-at c.zip.ensures.first (YieldsList-from_slice form c.iter.ensures.rest)) (YieldsList-at c.zip.ensures.second (YieldsList-from_slice line c.iter-then-form-line.ensures.rest)))
+    (λ x b q k. search (rules, tests))
+    ∙ fits_all form line c.if-form-line.true
 
-pub loop-i-init : goal.loop-i-init
-loop-i-init c = (refl, c.if-line-n.false, omega arith, refl)
-
-pub returns-then-not-fits_at : goal.returns-then-not-fits_at
-returns-then-not-fits_at c =
-    let at = c.loop-i in
-    let given = c.args in
-    let now = fits_next given.form.now given.line.now at.i (omega (arith, at.invariant.0)) (omega (arith, at.invariant.0, at.invariant.1)) in
-    sym (at.invariant.3 ∙ now ∙ rw (← c.fits_at.ensures, c.if-not-fits_at.true))
-
-pub loop-i-preserved : goal.loop-i-preserved
-loop-i-preserved c =
-    let at = c.loop-i in
-    let given = c.args in
-    let now = fits_next given.form.now given.line.now at.i (omega (arith, at.invariant.0)) (omega (arith, at.invariant.0, at.invariant.1)) in
-    (at.invariant.0, at.invariant.1, omega arith, at.invariant.3 ∙ now ∙ rw (← c.fits_at.ensures, c.if-not-fits_at.false))
-
-pub returns : goal.returns
-returns c =
-    let at = c.loop-i in
-    let given = c.args in
-    let all : at.i ≡ length given.form.now = omega (arith, at.invariant.0) in
-    sym (at.invariant.3 ∙ rw all (fits_end given.form.now given.line.now at.invariant.1))
+pub returns-else-form-line : goal.returns-else-form-line
+returns-else-form-line c = ne_eqb _ _ c.if-form-line.false ∙ sym (fits_length _ _ (λ e. c.if-form-line.false (sym e)))

@@ -13,7 +13,7 @@ start-requires c = omega (arith, fits_long start_form _ (sym c.fits.ensures ∙ 
 
 pub returns-then-fits : goal.returns-then-fits
 unfolding meaning
-returns-then-fits c = rw (← c.fits.ensures, c.if-fits.true) c.start.ensures
+returns-then-fits c = rw (← c.fits.ensures, c.if-fits.true, c.start.ensures)
 
 pub write-requires-clause-in_bounds : goal.write-requires-clause-in_bounds
 write-requires-clause-in_bounds c = omega (arith, fits_long write_form _ (sym c.fits-2.ensures ∙ c.if-fits-2.true))
@@ -32,7 +32,8 @@ returns-then-fits-2 c =
       c.if-fits.false,
       ← c.fits-2.ensures,
       c.if-fits-2.true,
-    ) c.write.ensures
+      c.write.ensures,
+    )
 
 pub read-requires : goal.read-requires
 read-requires c = omega (arith, fits_long read_form _ (sym c.fits-3.ensures ∙ c.if-fits-3.true))
@@ -47,7 +48,8 @@ returns-then-fits-3 c =
       c.if-fits-2.false,
       ← c.fits-3.ensures,
       c.if-fits-3.true,
-    ) c.read.ensures
+      c.read.ensures,
+    )
 
 pub access-requires : goal.access-requires
 access-requires c = omega (arith, fits_long access_form _ (sym c.fits-4.ensures ∙ c.if-fits-4.true))
@@ -64,7 +66,8 @@ returns-then-fits-4 c =
       c.if-fits-3.false,
       ← c.fits-4.ensures,
       c.if-fits-4.true,
-    ) c.access.ensures
+      c.access.ensures,
+    )
 
 pub acknowledge-requires : goal.acknowledge-requires
 acknowledge-requires c = omega (arith, fits_long acknowledge_form _ (sym c.fits-5.ensures ∙ c.if-fits-5.true))
@@ -83,7 +86,8 @@ returns-then-fits-5 c =
       c.if-fits-4.false,
       ← c.fits-5.ensures,
       c.if-fits-5.true,
-    ) c.acknowledge.ensures
+      c.acknowledge.ensures,
+    )
 
 pub returns : goal.returns
 unfolding meaning

@@ -1,18 +1,13 @@
--- `accumulator_of` meets its contract. Assumes nothing.
-use Rattle.registers.specs.Unit.{accumulator_of}
+-- `accumulator_of` meets its contract: byte by byte. Assumes nothing.
+use Rattle.std.proofs.Common.{rules}
+use lib.ListN.{get_or}
+use Rattle.pieces.proofs.Stores.{listed_by}
+use Rattle.registers.specs.Unit.{local, marked, accumulator_of}
 use Rattle.registers.proofs.unit.accumulator_of.Goals as goal
 
 pub returns : goal.returns
 unfolding accumulator_of
 returns c =
-    rw (
-      c.marked-9.ensures,
-      c.marked-8.ensures,
-      c.marked-7.ensures,
-      c.marked-6.ensures,
-      c.marked-5.ensures,
-      c.marked-4.ensures,
-      c.marked-3.ensures,
-      c.marked-2.ensures,
-      c.marked.ensures,
-    )
+    let made = c.from_fn.ensures.items in
+    listed_by (local 0) 9 c.from_fn.result (λ i. marked (get_or c.args.values i 0) c.args.marks i) made.long
+    (λ i h. let one = made.at i (local 0) h in search rules)

@@ -1,11 +1,8 @@
--- What the loop of `in_all` keeps.
-use Prim.Native.Nat.{◌-◌}
+-- What the loop of `in_all` keeps: the units before this one are changed.
+use Rattle.std.proofs.Common.{◌≡◌}
 use Rattle.registers.specs.Change.{changed}
-use Rattle.chip.proofs.Units.{Done}
+use Rattle.chip.specs.System.{each}
 use Rattle.chip.proofs.system.System.in_all.Given as goal
 
-abbrev pub invariant-loop-m : goal.invariant-loop-m
-invariant-loop-m l = Done l.initial.self l.self l.n l.m (λ k. changed l.change)
-
-abbrev pub decreases-loop-m : goal.decreases-loop-m
-decreases-loop-m l = l.n - l.m
+abbrev pub invariant-loop-unit : goal.invariant-loop-unit
+invariant-loop-unit l = l.unit-items ≡ each l.unit-index (λ m. changed l.change) l.initial.unit-items

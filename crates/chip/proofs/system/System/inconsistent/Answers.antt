@@ -1,25 +1,19 @@
--- `System::inconsistent` meets its contract: no unit that it has passed lacks a byte. Assumes nothing.
-use mathlib.Core.Path.{sym, ap, ◌∙◌}
-use mathlib.Core.Bool.{not}
-use native.Mathlib.Omega.{arith}
-use Rattle.chip.specs.Search.{found}
-use Rattle.chip.proofs.First.{first_at, first_nowhere, one_more}
+-- `System::inconsistent` meets its contract: some unit is not consistent. Assumes nothing.
+use Rattle.std.proofs.Common.{◌≡◌, ◌∙◌, not, Bool, take, length, rules, arith}
+use borrow.Author.Tests.{tests}
+use Rattle.std.proofs.lemmas.Iterator.{YieldsList-from_slice}
+use Rattle.std.proofs.lemmas.Iterator.Search.{any_from_yields_List}
+use Rattle.registers.specs.Unit.{needed, consistent, no_unit}
+use Rattle.registers.specs.declared.unit.Unit.{Unit}
+use Rattle.registers.proofs.Numbers.{counted}
+use Rattle.chip.specs.System.{present}
+use Rattle.chip.proofs.Sought.{any_first}
 use Rattle.chip.proofs.system.System.inconsistent.Goals as goal
-
-pub loop-m-init : goal.loop-m-init
-loop-m-init c = (omega (arith, c.present-n.ensures), omega arith, λ k a b. absurd (omega arith))
-
-pub returns-then-not-consistent : goal.returns-then-not-consistent
-returns-then-not-consistent c =
-    let at = c.loop-m in
-    sym (ap found (first_at _ _ _ at.m (omega arith) (omega (arith, c.present-n.ensures)) at.invariant.2
-    (ap not (sym c.consistent.ensures ∙ c.if-not-consistent.true))))
-
-pub loop-m-preserved : goal.loop-m-preserved
-loop-m-preserved c =
-    let at = c.loop-m in
-    (omega arith, omega arith, one_more _ at.m at.invariant.2 (ap not (sym c.consistent.ensures ∙ c.if-not-consistent.false)))
 
 pub returns : goal.returns
 returns c =
-    sym (ap found (first_nowhere _ _ _ (λ k a b. c.loop-m.invariant.2 k a (omega (arith, c.present-n.ensures)))))
+    let s = c.args.self in
+    let size : length s.units ≡ 6 = search (rules, counted) in
+    let sought : Unit → Bool = λ u. not (consistent (needed c.args.bytes) u) in
+    any_from_yields_List sought _ _ _ c.any.ensures.ran (YieldsList-from_slice (take (present s) s.units) (rw (← c.present-n.ensures) cc)) (λ x b q k. search (rules, tests))
+    ∙ any_first sought no_unit s.units 0 (present s) (omega (arith, size))

@@ -1,69 +1,63 @@
 -- `System::search` meets its contract: no place that it has passed matches, and the near one is the first of them. Assumes nothing.
-use mathlib.Core.Path.{◌≡◌, refl, sym, ap, ◌∙◌}
-use mathlib.Core.Bool.{false, not}
-use lib.Dec.{eqb}
-use native.Mathlib.Omega.{arith}
-use Prim.Native.Nat.{ℕ, ◌*◌}
-use Rattle.masks.proofs.Bits.{bit_test}
-use Rattle.descriptors.specs.Status.{E}
-use Rattle.descriptors.specs.Descriptor.{enabled, match_answer}
+use Rattle.std.proofs.Common.{ℕ, ◌*◌, ◌<◌, ◌≡◌, refl, sym, ap, ◌∙◌, Some, None, List, length, get_or, take, length-take-le, get_or-take, ⊎_elim, rules, arith}
+use Rattle.descriptors.specs.Descriptor.{match_answer, zeros}
+use Rattle.std.specs.Option.{option_or}
 use Rattle.descriptors.specs.declared.descriptor.Descriptor.{Descriptor}
-use Rattle.descriptors.specs.declared.descriptor.Match.TheVariants.{Disabled, RangeDiffers, SpaceDiffers, BothDiffer}
+use Rattle.descriptors.specs.declared.descriptor.Match.TheVariants.{Yes, Disabled, RangeDiffers, SpaceDiffers, BothDiffer}
+use Rattle.registers.proofs.Numbers.{counted}
 use Rattle.chip.specs.System.{present, descriptor}
 use Rattle.chip.specs.Search.{first, matching, searched}
-use Rattle.chip.specs.declared.search.Found.TheVariants.{At, Nowhere}
-use Rattle.chip.proofs.First.{first_at, first_nowhere, first_found}
+use Rattle.chip.specs.declared.system.System.{System}
+use Rattle.chip.specs.declared.search.Place.{Place}
+use Rattle.chip.proofs.First.{first_at, first_nowhere}
 use Rattle.chip.proofs.Passed.{matched, pass}
 use Rattle.chip.proofs.system.System.search.Goals as goal
-use Rattle.chip.proofs.system.System.search.Goals.{then-self-i-ne0+in-SpaceDiffers, then-self-i-ne0+in-Disabled, then-self-i-ne0+in-RangeDiffers, then-self-i-ne0+in-BothDiffer, else-self-i-ne0}
+use Rattle.chip.proofs.system.System.search.Goals.{in-SpaceDiffers, in-Disabled}
 
-not_enabled : (d : Descriptor) (page number : ℕ) → enabled d ≡ false → match_answer d page number ≡ Disabled
-unfolding match_answer
-not_enabled d page number e = rw e
+-- the elements of the slice are the first descriptors
+all : (s : System) (ds : List Descriptor) → ds ≡ take (32 * present s) s.descriptors → length s.descriptors ≡ 192 → length ds ≡ 32 * present s
+all s ds e size = rw e (length-take-le (32 * present s) s.descriptors (omega (arith, size)))
+
+there : (s : System) (i : ℕ) (ds : List Descriptor) → ds ≡ take (32 * present s) s.descriptors → length s.descriptors ≡ 192 → i < length ds
+    → (i < 32 * present s) × (get_or ds i zeros ≡ descriptor s i)
+there s i ds e size h = let l : i < 32 * present s = omega (arith, all s ds e size) in (l, rw e (get_or-take (32 * present s) s.descriptors i zeros l))
 
 pub loop-i-init : goal.loop-i-init
 unfolding first
-loop-i-init c = (omega arith, record { none = λ k a b. absurd (omega arith); lowest = refl })
+loop-i-init c = record { none = λ k a b. absurd (omega arith); lowest = refl }
 
 pub returns-in-Yes : goal.returns-in-Yes
 unfolding searched
 returns-in-Yes c =
     let at = c.loop-i in
     let a = c.args in
-    let found = matched a.page a.number a.self at.i (sym c.match_answer.ensures ∙ c.in-Yes.is) in
-    let e : matching a.page a.number a.self ≡ At at.i =
-    first_at _ 0 _ at.i (omega arith) (omega (arith, c.present-i-end.ensures)) at.invariant.1.none found in
+    let size : length a.self.now.descriptors ≡ 192 = search (rules, counted) in
+    let there = there a.self.now at.i _ c.in_system-d-items.ensures size c.loop-i-test.true in
+    let found = matched a.logical.page a.logical.number a.self.now at.i {a = Yes} (ap (λ (d : Descriptor). match_answer d a.logical.page a.logical.number) (sym there.1) ∙ sym c.match_answer.ensures ∙ c.in-Yes.is) in
+    let e : matching a.logical.page a.logical.number a.self.now ≡ Some at.i = first_at _ 0 _ at.i (omega arith) (omega (arith, there.0)) at.invariant.none found in
     rw e refl
 
 pub loop-i-preserved : goal.loop-i-preserved
 loop-i-preserved c =
     let at = c.loop-i in
     let a = c.args in
-    let step = pass a.page a.number a.self at.near c.if-self-i-ne0.near at.i in
-    let passed = at.invariant.1 in (
-      omega arith,
-      elim c.if-self-i-ne0.branch [
-        | then-self-i-ne0+in-SpaceDiffers w ↦ step SpaceDiffers (sym w.match_answer.ensures ∙ w.in-SpaceDiffers.is) refl (w.near-is ∙ w.or_at-near.ensures) passed
-        | then-self-i-ne0+in-Disabled w ↦ step Disabled (sym w.match_answer.ensures ∙ w.in-Disabled.is) refl w.near-is passed
-        | then-self-i-ne0+in-RangeDiffers w ↦ step RangeDiffers (sym w.match_answer.ensures ∙ w.in-RangeDiffers.is) refl w.near-is passed
-        | then-self-i-ne0+in-BothDiffer w ↦ step BothDiffer (sym w.match_answer.ensures ∙ w.in-BothDiffer.is) refl w.near-is passed
-        | else-self-i-ne0 w ↦ step Disabled (not_enabled (descriptor a.self at.i) a.page a.number (sym (bit_test (descriptor a.self at.i).ssr E) ∙ ap (λ (n : ℕ). not (eqb n 0)) w.if-self-i-ne0.false)) refl w.near-is passed
-      ],
-    )
-
-pub named-requires : goal.named-requires
-named-requires c i e =
-    let at = c.loop-i in
-    omega (arith, (first_found _ 0 at.i i (sym at.invariant.1.lowest ∙ e)).high, c.present-i-end.ensures)
+    let size : length a.self.now.descriptors ≡ 192 = search (rules, counted) in
+    let there = there a.self.now at.i _ c.in_system-d-items.ensures size c.loop-i-test.true in
+    let step = pass a.logical.page a.logical.number a.self.now at.near c.match-match_answer.near at.i in
+    let here = ap (λ (d : Descriptor). match_answer d a.logical.page a.logical.number) (sym there.1) ∙ sym c.match_answer.ensures in
+    elim c.match-match_answer.branch [
+      | in-SpaceDiffers w ↦ step SpaceDiffers (here ∙ w.in-SpaceDiffers.is) refl (w.near-is ∙ w.or-near.ensures ∙ ap (λ (p : Place). option_or at.near (Some p)) w.place.ensures) at.invariant
+      | in-Disabled w ↦ ⊎_elim (λ e. step Disabled (here ∙ e) refl w.near-is at.invariant)
+          (⊎_elim (λ e. step RangeDiffers (here ∙ e) refl w.near-is at.invariant) (λ e. step BothDiffer (here ∙ e) refl w.near-is at.invariant))
+          w.in-Disabled.is
+    ]
 
 pub returns : goal.returns
 unfolding searched
 returns c =
     let at = c.loop-i in
     let a = c.args in
-    let whole : at.i ≡ 32 * present a.self = omega (arith, c.present-i-end.ensures) in
-    let e : matching a.page a.number a.self ≡ Nowhere = first_nowhere _ 0 _ (λ k l h. at.invariant.1.none k l (omega arith)) in
-    rw (e, c.named.ensures, at.invariant.1.lowest, whole) refl
-
-pub overflow_mul-i-end : goal.overflow_mul-i-end
-overflow_mul-i-end c = omega (arith, c.present-i-end.ensures)
+    let size : length a.self.now.descriptors ≡ 192 = search (rules, counted) in
+    let whole : at.i ≡ 32 * present a.self.now = omega (arith, all a.self.now _ c.in_system-d-items.ensures size, c.loop-i-test.false, at.auto.i-end) in
+    let e : matching a.logical.page a.logical.number a.self.now ≡ None = first_nowhere _ 0 _ (λ k l h. at.invariant.none k l (omega arith)) in
+    rw (e, at.invariant.lowest, whole) refl
