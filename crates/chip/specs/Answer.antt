@@ -85,18 +85,25 @@ abbrev pub checked : List (Refusal × Bool) → System → Outcome → Outcome
 checked [] s o = o
 checked (c ∷ cs) s o = cond c.1 (refused c.0 s) (checked cs s o)
 
--- which refusal that is, if any
-abbrev pub decided : List (Refusal × Bool) → Result ⊤ Refusal
-decided [] = Ok tt
-decided (c ∷ cs) = cond c.1 (Err c.0) (decided cs)
+-- the same for any refusals: a is the result where none applies; and whether one does
+abbrev pub decided : {R A : Type 0} → List (R × Bool) → A → Result A R
+decided [] a = Ok a
+decided (c ∷ cs) a = cond c.1 (Err c.0) (decided cs a)
+
+abbrev pub passed : {R : Type 0} → List (R × Bool) → Result ⊤ R
+passed cs = decided cs tt
 
 -- a table of refusals by number, each with when it is given: the first that applies, or zero
 abbrev pub first_of : (rows : List (ℕ × Bool)) → ℕ
 first_of [] = 0
 first_of (row ∷ rows) = cond row.1 row.0 (first_of rows)
 
+-- the checks as such a table, by the numbers of their refusals
+abbrev pub numbered_by : {R : Type 0} → (number : R → ℕ) → List (R × Bool) → List (ℕ × Bool)
+numbered_by {R} number = map (λ (c : R × Bool). (number c.0, c.1))
+
 abbrev pub numbered : List (Refusal × Bool) → List (ℕ × Bool)
-numbered = map (λ (c : Refusal × Bool). (number c.0, c.1))
+numbered = numbered_by number
 
 -- 1: the count is 0 or above 6
 abbrev pub miscounted : (count : ℕ) → Bool

@@ -1,6 +1,6 @@
 // The answers, and document 01's number and values for each.
 ghost use Rattle.std.specs.Prelude.{◌≡◌, [], ◌∷◌};
-ghost use Rattle.chip.specs.Answer.{number, of_kind, at_place, carrying, values, refused, granted, reading, miscounted, decided};
+ghost use Rattle.chip.specs.Answer.{number, of_kind, at_place, carrying, values, refused, granted, reading, miscounted, passed};
 
 use crate::search::Place;
 use crate::system::System;
@@ -160,8 +160,8 @@ impl Answer {
 }
 
 // A check: the refusal where it applies.
-pub(crate) fn refuse(refusal: Refusal, applies: bool) -> Result<(), Refusal>
-    ensures { result ≡ decided ((refusal, applies) ∷ []) }
+pub fn refuse<R: Copy>(refusal: R, applies: bool) -> Result<(), R>
+    ensures { result ≡ passed ((refusal, applies) ∷ []) }
 {
     if applies { Err(refusal) } else { Ok(()) }
 }

@@ -1,6 +1,6 @@
 // The calls that a host can make, by name: one function takes any of them.
 ghost use Rattle.std.specs.Prelude.{◌≡◌, Ok};
-ghost use Rattle.chip.specs.Answer.{decided};
+ghost use Rattle.chip.specs.Answer.{passed};
 ghost use Rattle.chip.specs.Call.{checks, carried_out, performed};
 
 use crate::access::Cycle;
@@ -38,7 +38,7 @@ pub enum Call {
 impl System {
     // "Numbers the host gets back": what is checked, in this order.
     fn check(&self, call: Call) -> Result<(), Refusal>
-        ensures { result ≡ decided (checks call self.now) }
+        ensures { result ≡ passed (checks call self.now) }
     {
         let present = self.shared.board.count;
         match call {
@@ -74,7 +74,7 @@ impl System {
 
     // What it does where none of the checks applies.
     fn carry_out(self, call: Call) -> Outcome
-        requires { decided (checks call self) ≡ Ok tt }
+        requires { passed (checks call self) ≡ Ok tt }
         ensures { result ≡ carried_out call self }
     {
         match call {
