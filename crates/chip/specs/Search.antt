@@ -1,12 +1,13 @@
 -- The priority encoder: handbook 3.2.6 and 3.2.7. Descriptor 0 has the highest priority; of several
 -- units the lowest (document 01, "A bus access").
-use Rattle.std.specs.Prelude.{ℕ, suc, zero, ◌*◌, ◌/◌, ◌%◌, ◌<◌, Bool, ◌&&◌, cond, ◌≡◌, Option, Some, None, is_some, ok_or, option_map, Result, Ok}
+use Rattle.std.specs.Prelude.{ℕ, suc, zero, ◌*◌, ◌/◌, ◌%◌, ◌<◌, Bool, ◌&&◌, cond, ◌≡◌, Option, Some, None, is_some, ok_or, option_map, Result, Ok, Err}
 use Rattle.descriptors.specs.Descriptor.{matches, match_answer, space_alone, pending}
 use Rattle.registers.specs.Unit.{none}
 use Rattle.chip.specs.System.{present, descriptor}
 use Rattle.descriptors.specs.declared.descriptor.Descriptor.{Descriptor}
 use Rattle.chip.specs.declared.system.System.{System}
 use Rattle.chip.specs.declared.search.Place.{Place}
+use Rattle.chip.specs.declared.system.PlaceIndex.{PlaceIndex}
 
 -- the lowest of n places, the first of them `from`, of which p holds
 unfoldable pub first : (ℕ → Bool) → (from n : ℕ) → Option ℕ
@@ -41,9 +42,10 @@ place i = record { unit = i / 32; descriptor = i % 32 }
 unfoldable pub searched : (page number : ℕ) → System → Result ℕ (Option Place)
 searched page number s = ok_or (matching page number s) (option_map place (near_place page number s))
 
--- a match that was told is at one of the 192
-abbrev pub Located : Result ℕ (Option Place) → Type 0
-Located x = (i : ℕ) → x ≡ Ok i → i < 192
+-- the same by the place itself, one of the 192
+abbrev pub located : Result PlaceIndex (Option Place) → Result ℕ (Option Place)
+located (Ok i) = Ok i.value
+located (Err near) = Err near
 
 -- 3.2.4: LIP is set if one or more descriptors have IP set
 abbrev pub lip : (m : ℕ) → System → Bool

@@ -1,7 +1,7 @@
 // A bus access: normal address translation, and the two faults (handbook 4.5.3).
 ghost use Rattle.std.specs.Prelude.{◌≡◌, ◌+◌, ◌*◌, ◌<◌, ◌^◌};
 ghost use Rattle.chip.specs.Access.{reads_first, writes, touched, read_half, fault, violation, undefined, match_at, translate_at, translate};
-ghost use Rattle.chip.specs.Search.{Located};
+ghost use Rattle.chip.specs.Search.{located};
 
 use crate::answer::{Answer, Outcome};
 use crate::search::Place;
@@ -49,7 +49,7 @@ impl Cycle {
 fn physical(page: u16, offset: u8) -> u32
     ensures { result ≡ 256 * page + offset }
 {
-    256 * (page as u32) + offset as u32
+    256 * u32::from(page) + u32::from(offset)
 }
 
 impl System {
@@ -128,16 +128,15 @@ impl System {
     #[tactic(auto, unfolding(crate::specs::Access::translate_at))]
     fn translate_at(
         self,
-        search: Result<usize, Option<Place>>,
+        search: Result<PlaceIndex, Option<Place>>,
         cycle: Cycle,
         logical: Logical,
         offset: u8,
     ) -> Outcome
-        requires { Located search }
-        ensures { result ≡ translate_at search cycle logical.page logical.number offset self }
+        ensures { result ≡ translate_at (located search) cycle logical.page logical.number offset self }
     {
         match search {
-            Ok(i) => self.match_at(PlaceIndex { value: i }, cycle, logical, offset),
+            Ok(i) => self.match_at(i, cycle, logical, offset),
             Err(near) => self
                 .undefined(cycle, logical)
                 .granted(Answer::Undefined(near)),
@@ -145,7 +144,7 @@ impl System {
     }
 
     // One bus access: the function code selects the number, and the low eight address bits pass.
-    #[tactic(auto, using(crate::proofs::Near::searched_located), unfolding(crate::specs::Access::translate))]
+    #[tactic(auto, unfolding(crate::specs::Access::translate))]
     pub(crate) fn translate(self, function_code: u64, cycle: Cycle, address: u64) -> Outcome
         requires { address < 2 ^ 24 }
         ensures { result ≡ translate function_code cycle address self }

@@ -31,15 +31,13 @@ impl System {
         if !self.inconsistent(bytes) {
             return self;
         }
-        match bytes {
-            Bytes::Translation => self.send(0, m).send(1, m).send(6, m),
-            Bytes::Load => self
-                .send(0, m)
-                .send(1, m)
-                .send(2, m)
-                .send(3, m)
-                .send(6, m)
-                .send(8, m),
-        }
+        let needed: &[usize] = match bytes {
+            Bytes::Translation => &[0, 1, 6],
+            Bytes::Load => &[0, 1, 2, 3, 6, 8],
+        };
+        needed
+            .iter()
+            .copied()
+            .fold(self, |system, i| system.send(i, m))
     }
 }

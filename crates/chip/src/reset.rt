@@ -28,12 +28,9 @@ fn identity() -> Descriptor
     ensures { result ≡ identity }
 {
     Descriptor {
-        lba: 0,
-        lam: 0,
-        pba: 0,
-        asn: 0,
         ssr: status::E,
         asm: 0xFF,
+        ..zeros()
     }
 }
 
@@ -90,17 +87,9 @@ impl System {
         let descriptors = [descriptor; 192];
         let unit = blank();
         let units = [unit; 6];
-        let table = [0u8; 16];
-        let gsr = Gsr {
-            f: false,
-            df: false,
-            ie: false,
-        };
         let shared = Shared {
-            table,
-            gsr,
             ivr: 0,
-            board: Board { count: 0 },
+            ..uninitialized(Board { count: 0 })
         };
         System {
             descriptors,

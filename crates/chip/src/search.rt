@@ -1,7 +1,7 @@
 // The priority encoder: the first descriptor of which something holds (handbook 3.2.6, 3.2.7).
 ghost use Rattle.std.specs.Prelude.{◌≡◌, ◌/◌, ◌*◌, take, drop};
 ghost use Rattle.chip.specs.System.{present};
-ghost use Rattle.chip.specs.Search.{place, number_of, searched, lip, idp, irq};
+ghost use Rattle.chip.specs.Search.{place, located, number_of, searched, lip, idp, irq};
 
 use crate::system::{PlaceIndex, System, UnitIndex};
 use descriptors::descriptor::{Descriptor, Logical, Match};
@@ -60,14 +60,15 @@ impl System {
     }
 
     // 4.5.3.1, and P4: one pass finds the match, or the lowest descriptor whose space alone differs.
-    pub(crate) fn search(&self, logical: Logical) -> Result<usize, Option<Place>>
-        ensures { result ≡ searched logical.page logical.number self.now }
+    pub(crate) fn search(&self, logical: Logical) -> Result<PlaceIndex, Option<Place>>
+        ensures { located result ≡ searched logical.page logical.number self.now }
     {
         let mut near = None;
         for (i, d) in self.in_system().iter().enumerate() {
+            let i = PlaceIndex { value: i };
             match d.match_answer(logical) {
                 Match::Yes => return Ok(i),
-                Match::SpaceDiffers => near = near.or(Some(PlaceIndex { value: i }.place())),
+                Match::SpaceDiffers => near = near.or(Some(i.place())),
                 Match::Disabled | Match::RangeDiffers | Match::BothDiffer => {}
             }
         }

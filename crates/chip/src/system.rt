@@ -33,8 +33,7 @@ impl System {
     pub fn present(self) -> usize
         ensures { result ≡ present self }
     {
-        let count = self.shared.board.count;
-        if count < 6 { count } else { 6 }
+        self.shared.board.count.min(6)
     }
 
     pub(crate) fn unit(self, m: UnitIndex) -> Unit
@@ -79,7 +78,7 @@ impl System {
     {
         let unit = self.unit(m);
         PlaceIndex {
-            value: 32 * m.value + (unit.dp % 32) as usize,
+            value: 32 * m.value + usize::from(unit.dp % 32),
         }
     }
 

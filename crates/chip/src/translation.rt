@@ -20,7 +20,7 @@ impl System {
         t.with_unit(m, unit).reading(0x00)
     }
 
-    #[tactic(auto, using(crate::proofs::Near::searched_located), unfolding(crate::specs::Translation::direct_translation, crate::specs::Translation::result_at))]
+    #[tactic(auto, unfolding(crate::specs::Translation::direct_translation, crate::specs::Translation::result_at))]
     pub(crate) fn direct_translation(self, m: UnitIndex) -> Reading
         ensures { result ≡ direct_translation m.value self }
     {
@@ -31,7 +31,7 @@ impl System {
             number: unit.ac(6),
         };
         match t.search(logical) {
-            Ok(i) => t.translated_at(PlaceIndex { value: i }, logical.page),
+            Ok(i) => t.translated_at(i, logical.page),
             Err(near) => {
                 let system = t.in_all(Change::Report(unit::NO, unit::NONE));
                 Reading {
