@@ -1,7 +1,7 @@
 -- Laws of `each`: a loop that replaces one element after the other makes it, or fills an array from the front.
 --     each_more, each_at, each_past, each_front, length_each, each_related     what is done to each of the first n
 --     filled_is, filled_below, filled_past, length_filled     an array whose first n elements are put in
---     begun, next, ended      a loop that does so
+--     front_next, front_ended     a loop over the first n
 -- Assumes nothing.
 use Prim.Native.Nat.{ℕ, zero, suc, ◌+◌, ◌<◌, ◌≤◌}
 use mathlib.Core.Path.{◌≡◌, refl, sym, ap, ◌∙◌}
@@ -12,7 +12,7 @@ use native.Mathlib.Numerals.{add-one}
 use native.Mathlib.Omega.{arith}
 use lib.Dec.{ltb}
 use lib.ListN.{length, get_or, set, take, drop, replicate, length-replicate, get_or-replicate}
-use lib.Seq.{ext_get_or}
+use lib.Seq.{ext_get_or, length-take-le}
 use borrow.Author.Tests.{ltb-true, ltb-false}
 use Rattle.chip.specs.System.{each}
 
@@ -65,25 +65,21 @@ each_related R d (suc n) f (x ∷ xs) q h zero l = h 0 x
 each_related R d (suc n) f (x ∷ xs) q h (suc k) l =
     each_related R d n (λ i. f (suc i)) xs q (λ i. h (suc i)) k (le_of_suc-le-suc l)
 
--- ---- an array that is filled, one element after the other
+-- ---- a loop over the first n elements of an array: those before i are done
 
+module _ {A : Type 0} (d : A) (n : ℕ) (f : ℕ → A → A) (xs : List A) where
+  pub front_next : (i : ℕ) (items : List A) (v : A) → items ≡ each i f (take n xs) → v ≡ f i (get_or items i d)
+      → set items i v ≡ each (i + 1) f (take n xs)
+  front_next i items v e q = rw (q, e) (each_more d i f (take n xs))
+
+  pub front_ended : (i : ℕ) (items : List A) → n ≤ length xs → items ≡ each i f (take n xs) → i ≤ length (take n xs)
+      → length (take n xs) ≤ i → items ++ drop n xs ≡ each n f xs
+  front_ended i items h e few all =
+      let last : i ≡ n = omega (arith, length-take-le n xs h) in
+      rw (e, last) (each_front n f xs)
+
+-- ---- an array that is filled
 module _ {A : Type 0} where
-  -- so far i of n are put in
-  abbrev pub Filling : (n : ℕ) (g : ℕ → A) (xs ys : List A) (i : ℕ) → Type 0
-  Filling n g xs ys i = (i ≤ n) × (ys ≡ each i (λ k x. g k) xs)
-
-  pub begun : {n : ℕ} (g : ℕ → A) (xs : List A) → Filling n g xs xs 0
-  unfolding each
-  begun g xs = (omega arith, refl)
-
-  pub next : (d : A) (g : ℕ → A) (xs : List A) {n i : ℕ} {ys : List A} {v : A} → Filling n g xs ys i → i < n → v ≡ g i
-      → Filling n g xs (set ys i v) (i + 1)
-  next d g xs {i = i} f l q = (omega arith, rw (f.1, q) (each_more d i (λ k x. g k) xs))
-
-  pub ended : (g : ℕ → A) (xs zs : List A) {n i : ℕ} {ys : List A} → Filling n g xs ys i → n ≤ i → xs ≡ zs
-      → ys ≡ each n (λ k x. g k) zs
-  ended g xs zs {n = n} {i = i} f l e = let all : i ≡ n = omega arith in f.1 ∙ rw (all, e)
-
   -- an array whose first n elements come from g, and the others are z
   pub filled_is : (d : A) (n k : ℕ) (g : ℕ → A) (z : A) (l : List A) → length l ≡ k
       → ((i : ℕ) → i < n → i < k → g i ≡ get_or l i d) → ((i : ℕ) → n ≤ i → i < k → z ≡ get_or l i d)

@@ -1,9 +1,10 @@
 -- `descriptors_of` meets its contract: the first descriptors are read, the others are as they were. Assumes nothing.
-use Rattle.std.proofs.Common.{◌≡◌, refl, length, take, drop, length-take-le, arith}
+use Rattle.std.proofs.Common.{◌≡◌, refl, ap, ◌∙◌, length, drop, rules, arith}
 use Rattle.descriptors.specs.Descriptor.{zeros}
+use Rattle.registers.proofs.Numbers.{counted}
 use Rattle.chip.specs.System.{each}
-use Rattle.chip.specs.Reset.{nothing}
-use Rattle.chip.proofs.Each.{each_more, each_front}
+use Rattle.chip.specs.declared.system.System.{System}
+use Rattle.chip.proofs.Each.{front_next, front_ended}
 use Rattle.pieces.proofs.Parts.{rest}
 use Rattle.block.specs.Layout.{descriptor_place, descriptor_of}
 use Rattle.block.proofs.read.descriptors_of.Goals as goal
@@ -14,13 +15,12 @@ loop-i-init c = refl
 
 pub loop-i-preserved : goal.loop-i-preserved
 loop-i-preserved c =
-    let at = c.loop-i in
-    rw (c.descriptor_of.ensures, rest, at.invariant) (each_more zeros at.i (λ k d. descriptor_of (drop (descriptor_place k) c.args.b.now)) _)
+    front_next zeros c.args.n (λ k x. descriptor_of (drop (descriptor_place k) c.args.b.now)) c.nothing.result.descriptors c.loop-i.i _ _ c.loop-i.invariant
+    (rw rest at c.descriptor_of.ensures)
 
 pub returns : goal.returns
 returns c =
-    let at = c.loop-i in
-    let n = c.args.n in
-    let front : length (take n c.nothing.result.descriptors) ≡ n = rw c.nothing.ensures (length-take-le n nothing.descriptors (omega arith)) in
-    let all : at.i ≡ n = omega (arith, front, at.auto.i-end, c.loop-i-test.false) in
-    rw (at.invariant, all, c.nothing.ensures, each_front)
+    let all : length c.nothing.result.descriptors ≡ 192 = search (rules, counted) in
+    front_ended zeros c.args.n (λ k x. descriptor_of (drop (descriptor_place k) c.args.b.now)) c.nothing.result.descriptors c.loop-i.i _ (omega (arith, all))
+    c.loop-i.invariant c.loop-i.auto.i-end c.loop-i-test.false
+    ∙ ap (λ (s : System). each c.args.n (λ k x. descriptor_of (drop (descriptor_place k) c.args.b.now)) s.descriptors) c.nothing.ensures
