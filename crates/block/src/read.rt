@@ -25,7 +25,8 @@ fn unit_of(b: &[u8]) -> Unit
     requires { 16 ≤ length b.now }
     ensures { result ≡ unit_of b.now }
 {
-    let values = [b[0], b[1], b[2], b[3], b[4], b[5], b[6], b[7], b[8]];
+    let mut values = [0u8; 9];
+    values.copy_from_slice(&b[..9]);
     Unit {
         accumulator: unit::accumulator_of(values, pieces::join(b[10], b[9])),
         dp: b[11] % 32,
@@ -84,7 +85,7 @@ fn shared_of(b: &[u8]) -> Shared
         gsr: Gsr::from(b[1]),
         ivr: b[2],
         board: Board {
-            count: b[0] as usize,
+            count: usize::from(b[0]),
         },
     }
 }

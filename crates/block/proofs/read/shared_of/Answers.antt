@@ -4,4 +4,4 @@ use Rattle.block.proofs.read.shared_of.Goals as goal
 
 pub returns : goal.returns
 unfolding shared_of
-returns c = rw (c.copy_from_slice.ensures.after, c.from.ensures)
+returns c = rw (c.copy_from_slice.ensures.after, c.from.ensures, c.from-2.ensures)
