@@ -1,10 +1,8 @@
 // A bus access: normal address translation, and the two faults (handbook 4.5.3).
 ghost use Rattle.std.specs.Prelude.{◌≡◌, ◌+◌, ◌*◌, ◌<◌, ◌^◌};
-ghost use Rattle.chip.specs.Access.{reads_first, writes, touched, read_half, fault, violation, undefined, match_at, translate_at, translate};
-ghost use Rattle.chip.specs.Search.{located};
+ghost use Rattle.chip.specs.Access.{reads_first, writes, touched, read_half, fault, violation, undefined, match_at, translate};
 
 use crate::answer::{Answer, Outcome};
-use crate::search::Place;
 use crate::system::{PlaceIndex, System, UnitIndex};
 use descriptors::descriptor::Logical;
 use descriptors::status;
@@ -124,27 +122,8 @@ impl System {
         self.granted(answer)
     }
 
-    // 4.5.3, once the match is sought.
-    #[tactic(auto, unfolding(crate::specs::Access::translate_at))]
-    fn translate_at(
-        self,
-        search: Result<PlaceIndex, Option<Place>>,
-        cycle: Cycle,
-        logical: Logical,
-        offset: u8,
-    ) -> Outcome
-        ensures { result ≡ translate_at (located search) cycle logical.page logical.number offset self }
-    {
-        match search {
-            Ok(i) => self.match_at(i, cycle, logical, offset),
-            Err(near) => self
-                .undefined(cycle, logical)
-                .granted(Answer::Undefined(near)),
-        }
-    }
-
     // One bus access: the function code selects the number, and the low eight address bits pass.
-    #[tactic(auto, unfolding(crate::specs::Access::translate))]
+    #[tactic(auto, unfolding(crate::specs::Access::translate, crate::specs::Access::translate_at))]
     pub(crate) fn translate(self, function_code: u64, cycle: Cycle, address: u64) -> Outcome
         requires { address < 2 ^ 24 }
         ensures { result ≡ translate function_code cycle address self }
@@ -154,6 +133,11 @@ impl System {
             number: self.shared.entry(function_code as usize),
         };
         let offset = (address % 256) as u8;
-        self.translate_at(self.search(logical), cycle, logical, offset)
+        match self.search(logical) {
+            Ok(i) => self.match_at(i, cycle, logical, offset),
+            Err(near) => self
+                .undefined(cycle, logical)
+                .granted(Answer::Undefined(near)),
+        }
     }
 }

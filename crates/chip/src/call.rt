@@ -72,11 +72,13 @@ impl System {
         }
     }
 
-    // What it does where none of the checks applies.
-    fn carry_out(self, call: Call) -> Outcome
-        requires { passed (checks call self) ≡ Ok tt }
-        ensures { result ≡ carried_out call self }
+    #[tactic(auto, unfolding(crate::specs::Call::performed))]
+    pub fn perform(self, call: Call) -> Outcome
+        ensures { result ≡ performed call self }
     {
+        if let Err(refusal) = self.check(call) {
+            return self.refused(refusal);
+        }
         match call {
             Call::Start { count, selected } => {
                 let board = Board {
@@ -107,16 +109,6 @@ impl System {
                 byte: self.shared.ivr,
                 near: None,
             }),
-        }
-    }
-
-    #[tactic(auto, unfolding(crate::specs::Call::performed))]
-    pub fn perform(self, call: Call) -> Outcome
-        ensures { result ≡ performed call self }
-    {
-        match self.check(call) {
-            Ok(()) => self.carry_out(call),
-            Err(refusal) => self.refused(refusal),
         }
     }
 }
