@@ -1,9 +1,8 @@
--- `clash` meets its contract: `clash_bits`, at the width of the field. Assumes nothing.
-use Rattle.masks.proofs.Laws.{clash_bits}
+-- `clash` meets its contract: `clash_test`, at the width of the field. Assumes nothing.
+use Rattle.masks.proofs.Laws.{clash_test}
 use Rattle.masks.proofs.clash.Goals as goal
 
 pub returns : goal.returns
 returns g c =
-    let laws = g.met.F.Field in
-    rw (c.is_zero.ensures, laws.and_law _ _ _ c.bitand-2.ensures, laws.and_law _ _ _ c.bitand.ensures, laws.xor_law _ _ _ c.bitxor.ensures)
-    (clash_bits _ _ _ _ _)
+    rw (c.bits.ensures.number, c.bits-2.ensures.number, c.bits-3.ensures.number, c.bits-4.ensures.number)
+    (clash_test _ _ _ _ _ (rw c.bits-4.ensures.number at c.bits-4.ensures.fits))
