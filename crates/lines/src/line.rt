@@ -40,9 +40,9 @@ fn address_at(line: &[u8], i: usize) -> u64
     requires { i + 5 < length line.now }
     ensures { result ≡ address_at line.now i }
 {
-    65536 * (byte_at(line, i) as u64)
-        + 256 * (byte_at(line, i + 2) as u64)
-        + byte_at(line, i + 4) as u64
+    65536 * u64::from(byte_at(line, i))
+        + 256 * u64::from(byte_at(line, i + 2))
+        + u64::from(byte_at(line, i + 4))
 }
 
 // By functions, and no `From`, here and below: the byte and the type are both of other crates.
@@ -52,7 +52,7 @@ fn unit(c: u8) -> Option<u64>
     if c == b'-' {
         None
     } else {
-        Some(digits::digit(c) as u64)
+        Some(u64::from(digits::digit(c)))
     }
 }
 
@@ -71,7 +71,7 @@ fn start(line: &[u8]) -> Call
     requires { 5 ≤ length line.now }
     ensures { result ≡ start_of line.now }
 {
-    let count = digits::digit(line[2]) as u64;
+    let count = u64::from(digits::digit(line[2]));
     let selected = unit(line[4]);
     Call::Start { count, selected }
 }
@@ -81,8 +81,8 @@ fn write(line: &[u8]) -> Call
     requires line_bound { byte_at line.now 7 < 256 }
     ensures { result ≡ write_of line.now }
 {
-    let unit = digits::digit(line[2]) as u64;
-    let address = byte_at(line, 4) as u64;
+    let unit = u64::from(digits::digit(line[2]));
+    let address = u64::from(byte_at(line, 4));
     let operation = Operation::Write(byte_at(line, 7) as u8);
     Call::Register {
         unit,
@@ -95,8 +95,8 @@ fn read(line: &[u8]) -> Call
     requires { 6 ≤ length line.now }
     ensures { result ≡ read_of line.now }
 {
-    let unit = digits::digit(line[2]) as u64;
-    let address = byte_at(line, 4) as u64;
+    let unit = u64::from(digits::digit(line[2]));
+    let address = u64::from(byte_at(line, 4));
     Call::Register {
         unit,
         address,
@@ -108,7 +108,7 @@ fn access(line: &[u8]) -> Call
     requires { 12 ≤ length line.now }
     ensures { result ≡ access_of line.now }
 {
-    let function_code = digits::digit(line[2]) as u64;
+    let function_code = u64::from(digits::digit(line[2]));
     let cycle = direction(line[4]);
     let address = address_at(line, 6);
     Call::Access {
@@ -123,7 +123,7 @@ fn acknowledge(line: &[u8]) -> Call
     ensures { result ≡ acknowledge_of line.now }
 {
     Call::Acknowledge {
-        unit: digits::digit(line[2]) as u64,
+        unit: u64::from(digits::digit(line[2])),
     }
 }
 
