@@ -7,11 +7,12 @@ function capital(name) { return toupper(substr(name, 1, 1)) substr(name, 2) }
 function fault(why) { faults = faults (faults ? "; " : "") why }
 
 # What the 'ensures' equate, each 'NAME { LEFT ≡ DEFINITION }', of which only a single one may lack its name: into said[], by
-# which of them the result is equated ("") or what lies behind a parameter at exit; into clauses and definitions, how many there
-# are and their text.
+# which of them the result is equated ("") or what lies behind a parameter at exit; into lends, whether it is what lies behind
+# the result, a '&'; into clauses and definitions, how many there are and their text.
 function promise(says, n,   i, left, definition, at) {
     split("", said)
     definitions = ""
+    lends = 0
     clauses = n
     for (i = 1; i <= n; i++) {
         definition = says[i + 1]
@@ -21,6 +22,7 @@ function promise(says, n,   i, left, definition, at) {
         left = substr(definition, 1, at - 1)
         definition = "`" substr(definition, at + length(" ≡ ")) "`"
         if (left == "result") said[""] = i
+        else if (left == "result.now" && says[1] ~ /-> &/ && says[1] !~ /-> &('[a-z]+ )?mut /) { said[""] = i; lends = 1 }
         else if (left ~ /^[a-z_0-9]+\.new$/) {
             sub(/\.new$/, "", left)
             said[left] = i
@@ -106,7 +108,7 @@ function report(head,   says, n, name, path, called, text) {
     text = proof(says[1])
     taking = generics(head)
     print crate "\t" called "\tRattle." crate ".proofs." path name "\t" claim(path, name) \
-        "\t" (head ~ / extern "C" fn / ? "C" : trait ? "trait" : "Rattle") "\t" text "\t" (faults ? faults : "-") "\t" definitions "\t" taking
+        "\t" (head ~ / extern "C" fn / ? "C" : trait ? "trait" : "Rattle") "\t" text "\t" (faults ? faults : "-") "\t" definitions "\t" taking "\t" lends
 }
 
 FNR == 1 {

@@ -12,20 +12,13 @@ struct Bench {
     line: Text,
 }
 
-fn write<W: Write>(output: &mut W, text: Text) -> io::Result<()> {
-    let length = text.length;
-    let bytes = text.bytes;
-    let n = pieces::within(length, &bytes);
-    output.write_all(&bytes[..n])
-}
-
 impl Bench {
     // The line is answered, and the next begins.
     fn answer<W: Write>(&mut self, output: &mut W) -> io::Result<()> {
         let turn = lines::turn::answer(self.line, self.system);
         self.system = turn.system;
         self.line = Text::new();
-        write(output, turn.text)
+        output.write_all(turn.text.held())
     }
 
     // Each byte of a part of the input: a line is answered when its line feed has come.

@@ -1,7 +1,8 @@
 -- At most one outcome meets the promise of each public function. A promise says what the result equals, and what
--- lies behind each `&mut`; so two outcomes that meet it both equal what it says. An outcome is the result and a
--- tuple over the parameters, which has the last value of what lies behind a `&mut`, and nothing of any other. So
--- the proof follows from the signature, and `.ci/claims write` writes it: p and q are that each keeps the promise.
+-- lies behind each `&mut`; so two outcomes that meet it both equal what it says. An outcome is the result (of a
+-- `&`, what lies behind it) and a tuple over the parameters, which has the last value of what lies behind a `&mut`,
+-- and nothing of any other. So the proof follows from the signature, and `.ci/claims write` writes it: p and q are
+-- that each keeps the promise.
 --     same      two that equal a third
 --     lent      a `&mut`, whose last values equal a third, and the parameters after it
 --     past      any other parameter, and those after it
@@ -39,9 +40,11 @@ outcomes = record {
   digits_hex_digit = λ κs a x y v w p q. (same p q, refl);
   TextNew = λ κs a x y v w p q. (same p q, refl);
   TextIsEmpty = λ κs a x y v w p q. (same p q, refl);
+  TextHeld = λ κs a x y v w p q. (same p q, refl);
   TextPush = λ κs a x y v w p q. (same p q, refl);
   TextWithBytes = λ κs a x y v w p q. (same p q, refl);
   TextOf = λ κs a x y v w p q. (same p q, refl);
+  TextWithHex = λ κs a x y v w p q. (same p q, refl);
   TextWithNumber = λ κs a x y v w p q. (same p q, refl);
   -- descriptors
   DescriptorEnabled = λ κs a x y v w p q. (same p q, refl);

@@ -20,9 +20,11 @@ use Rattle.text.proofs.digits.byte_of as digits_byte_of
 use Rattle.text.proofs.digits.hex_digit as digits_hex_digit
 use Rattle.text.proofs.Text.new as TextNew
 use Rattle.text.proofs.Text.is_empty as TextIsEmpty
+use Rattle.text.proofs.Text.held as TextHeld
 use Rattle.text.proofs.Text.push as TextPush
 use Rattle.text.proofs.Text.with_bytes as TextWithBytes
 use Rattle.text.proofs.Text.of as TextOf
+use Rattle.text.proofs.Text.with_hex as TextWithHex
 use Rattle.text.proofs.Text.with_number as TextWithNumber
 -- descriptors
 use Rattle.descriptors.proofs.descriptor.Descriptor.enabled as DescriptorEnabled
@@ -88,7 +90,7 @@ use Rattle.cleftromi.proofs.cleftromi_restore as cleftromi_restore
 -- lines
 use Rattle.lines.proofs.turn.answer as turn_answer
 -- end
-use Rattle.demands.specs.Promises.{AtMostOne}
+use Rattle.demands.specs.Promises.{AtMostOne, AtMostOneBehind}
 
 -- a claim over a function with a type parameter is one for every type, and every `impl` of its bound
 pub record Outcomes : Type 2 where
@@ -111,9 +113,11 @@ pub record Outcomes : Type 2 where
   pub digits_hex_digit : AtMostOne digits_hex_digit.Kinds.ps digits_hex_digit.Kinds.r digits_hex_digit.Reads.Post
   pub TextNew : AtMostOne TextNew.Kinds.ps TextNew.Kinds.r TextNew.Reads.Post
   pub TextIsEmpty : AtMostOne TextIsEmpty.Kinds.ps TextIsEmpty.Kinds.r TextIsEmpty.Reads.Post
+  pub TextHeld : AtMostOneBehind TextHeld.Kinds.ps TextHeld.Kinds.r (λ κs x. x.now) TextHeld.Reads.Post
   pub TextPush : AtMostOne TextPush.Kinds.ps TextPush.Kinds.r TextPush.Reads.Post
   pub TextWithBytes : AtMostOne TextWithBytes.Kinds.ps TextWithBytes.Kinds.r TextWithBytes.Reads.Post
   pub TextOf : AtMostOne TextOf.Kinds.ps TextOf.Kinds.r TextOf.Reads.Post
+  pub TextWithHex : AtMostOne TextWithHex.Kinds.ps TextWithHex.Kinds.r TextWithHex.Reads.Post
   pub TextWithNumber : AtMostOne TextWithNumber.Kinds.ps TextWithNumber.Kinds.r TextWithNumber.Reads.Post
   -- descriptors
   pub DescriptorEnabled : AtMostOne DescriptorEnabled.Kinds.ps DescriptorEnabled.Kinds.r DescriptorEnabled.Reads.Post

@@ -16,6 +16,14 @@ AtMostOne {n} ps r Promise =
     → Promise κs a x (at_exit (ended_of n ps r) κs a v) → Promise κs a y (at_exit (ended_of n ps r) κs a w)
     → (x ≡ y) × (v ≡ w)
 
+-- the same of a function that lends what it answers: what stands behind two results is equal, wherever they point
+abbrev pub AtMostOneBehind : {n : ℕ} {A : Type 0} (ps : List (ParamKind n)) (r : ResultKind n) → ((κs : Lfts n) → (res_t r κs).Denot → A)
+    → Out n ps r → Type 0
+AtMostOneBehind {n} ps r behind Promise =
+    (κs : Lfts n) (a : Dens κs ps) (x y : (res_t r κs).Denot) (v w : Lasts (ended_of n ps r) κs a)
+    → Promise κs a x (at_exit (ended_of n ps r) κs a v) → Promise κs a y (at_exit (ended_of n ps r) κs a w)
+    → (behind κs x ≡ behind κs y) × (v ≡ w)
+
 -- some outcome meets it, whatever the arguments
 abbrev pub AtLeastOne : {n : ℕ} (ps : List (ParamKind n)) (r : ResultKind n) → Out n ps r → Type 0
 AtLeastOne {n} ps r Promise =

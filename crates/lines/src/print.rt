@@ -19,12 +19,8 @@ fn flag(b: bool) -> u8
 fn named(text: Text, place: Place) -> Text
     ensures { result ≡ with_bytes text (named place.unit place.descriptor) }
 {
-    text.with_bytes(&[
-        digits::hex_digit(place.unit as u32),
-        b' ',
-        digits::hex_digit((place.descriptor / 16) as u32),
-        digits::hex_digit(place.descriptor as u32),
-    ])
+    let unit = digits::hex_digit(u32::from(place.unit));
+    text.with_bytes(&[unit, b' ']).with_hex(place.descriptor)
 }
 
 // How the lines of answers end, but for U: with IRQ; P and V with the unit, the descriptor and WIN before it.
@@ -52,20 +48,16 @@ fn reason(text: Text, near: Option<Place>) -> Text
 }
 
 // And how three of them begin.
+#[tactic(auto, using(text::proofs::Values::hex_bytes))]
 fn mapped(address: u32) -> Text
     ensures { result ≡ text (ascii "P " ++ hex_address address ++ ascii " ") }
 {
-    Text::of(&[
-        b'P',
-        b' ',
-        digits::hex_digit(address / 1048576),
-        digits::hex_digit(address / 65536),
-        digits::hex_digit(address / 4096),
-        digits::hex_digit(address / 256),
-        digits::hex_digit(address / 16),
-        digits::hex_digit(address),
-        b' ',
-    ])
+    let [_, high, middle, low] = address.to_be_bytes();
+    Text::of(b"P ")
+        .with_hex(high)
+        .with_hex(middle)
+        .with_hex(low)
+        .with_bytes(b" ")
 }
 
 fn undefined(irq: bool) -> Text
@@ -77,12 +69,7 @@ fn undefined(irq: bool) -> Text
 fn read(byte: u8) -> Text
     ensures { result ≡ text (ascii "= " ++ hex_byte byte) }
 {
-    Text::of(&[
-        b'=',
-        b' ',
-        digits::hex_digit((byte / 16) as u32),
-        digits::hex_digit(byte as u32),
-    ])
+    Text::of(b"= ").with_hex(byte)
 }
 
 // The answer to a line that means nothing.

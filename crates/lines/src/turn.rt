@@ -4,7 +4,6 @@ ghost use Rattle.lines.specs.Line.{meaning};
 ghost use Rattle.text.specs.Text.{held};
 ghost use Rattle.lines.specs.Turn.{turn};
 
-use chip::call::Call;
 use chip::system::System;
 use text::Text;
 
@@ -15,19 +14,10 @@ pub struct Turn {
     pub system: System,
 }
 
-fn read(line: Text) -> Option<Call>
-    ensures { result ≡ meaning (held line) }
-{
-    let length = line.length;
-    let bytes = line.bytes;
-    let n = pieces::within(length, &bytes);
-    crate::line::parse(&bytes[..n])
-}
-
 pub fn answer(line: Text, system: System) -> Turn
     ensures { result ≡ turn (meaning (held line)) system }
 {
-    match read(line) {
+    match crate::line::parse(line.held()) {
         Some(call) => {
             let outcome = system.perform(call);
             let text = crate::print::print(outcome.answer, outcome.irq);

@@ -1,16 +1,18 @@
 -- Digits and their values.
 --     hex_small, byte_small    a hex digit is below 16, and two are a byte
 --     digit_back               a digit that is printed is read again
+--     hex_bytes                an address is printed by its bytes
 -- Assumes nothing.
-use Prim.Native.Nat.{ℕ, ◌<◌}
+use Prim.Native.Nat.{ℕ, ◌<◌, ◌/◌, ◌%◌, ◌^◌}
 use mathlib.Core.Path.{◌≡◌, refl}
 use mathlib.Core.Bool.{Bool, true, false, ◌&&◌, ◌||◌, and-eq-true_iff}
+use mathlib.Core.List.{◌++◌}
 use native.Mathlib.Omega.{arith}
 use lib.Dec.{eqb, leb}
 use borrow.Author.Tests.{eqb-true, leb-true, lt-ltb, le-ltb}
 use Rattle.masks.specs.Fields.{every}
 use Rattle.masks.proofs.Bits.{every_at}
-use Rattle.text.specs.Digits.{decimal, hex, digit, byte_of, hex_digit}
+use Rattle.text.specs.Digits.{decimal, hex, digit, byte_of, hex_digit, hex_byte, hex_address}
 
 hex_small : (c : ℕ) → hex c ≡ true → digit c < 16
 hex_small c = go (decimal c) refl
@@ -35,3 +37,16 @@ digits_back = refl
 
 pub digit_back : (n : ℕ) → n < 16 → digit (hex_digit n) ≡ n
 digit_back n h = eqb-true _ _ ((every_at 16 (λ k. eqb (digit (hex_digit k)) k)).0 digits_back n h)
+
+-- the last four bits of a number are those of its last byte
+last : (n : ℕ) → n % 256 % 16 ≡ n % 16
+last n = omega arith
+
+next : (n : ℕ) → n % 256 / 16 % 16 ≡ n / 16 % 16
+next n = omega arith
+
+pub hex_bytes : (a : ℕ) → hex_byte (a / 65536 % 256) ++ hex_byte (a / 256 % 256) ++ hex_byte (a % 256) ≡ hex_address a
+hex_bytes a =
+    let first : a / 65536 / 16 ≡ a / 2 ^ 20 = omega arith in
+    let second : a / 256 / 16 ≡ a / 2 ^ 12 = omega arith in
+    rw (next (a / 65536), last (a / 65536), next (a / 256), last (a / 256), next a, last a, first, second) refl

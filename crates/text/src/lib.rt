@@ -3,14 +3,14 @@
 pub mod digits;
 
 ghost use Rattle.std.specs.Prelude.{◌≡◌};
-ghost use Rattle.text.specs.Digits.{decimal_number};
-ghost use Rattle.text.specs.Text.{empty, is_empty, pushed, with_bytes, text};
+ghost use Rattle.text.specs.Digits.{decimal_number, hex_byte};
+ghost use Rattle.text.specs.Text.{empty, held, is_empty, pushed, with_bytes, text};
 
 // Room for the longest line that is printed, and for more than the longest that has a meaning.
 const ROOM: usize = 22;
 
-// The first `length` bytes are held. A length beside its bytes, and no `String`, as the project has no heap. It goes by value: it
-// is small.
+// The first `length` bytes are held. An array with a length beside it, and no `Vec`, since the project has no heap. It goes by
+// value: it is small.
 #[derive(Clone, Copy)]
 pub struct Text {
     pub bytes: [u8; ROOM],
@@ -31,6 +31,14 @@ impl Text {
         ensures { result ≡ is_empty self }
     {
         self.length == 0
+    }
+
+    // All bytes, where a length says more than there are.
+    pub fn held(&self) -> &[u8]
+        ensures { result.now ≡ held self.now }
+    {
+        let end = pieces::within(self.length, &self.bytes);
+        &self.bytes[..end]
     }
 
     // No line that is longer has a meaning, so a byte that has no room may be dropped.
@@ -57,6 +65,14 @@ impl Text {
         ensures { result ≡ text bytes.now }
     {
         Text::new().with_bytes(bytes)
+    }
+
+    pub fn with_hex(self, byte: u8) -> Text
+        ensures { result ≡ with_bytes self (hex_byte byte) }
+    {
+        let high = digits::hex_digit(u32::from(byte / 16));
+        let low = digits::hex_digit(u32::from(byte));
+        self.push(high).push(low)
     }
 
     pub fn with_number(self, n: u8) -> Text
