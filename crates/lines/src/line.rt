@@ -128,6 +128,7 @@ fn acknowledge(line: &[u8]) -> Call
 }
 
 // Test by test, and no table: each form has a function of its own, which asks for the length that its test has shown.
+#[tactic(auto, using(crate::proofs::Forms::fits_long, crate::proofs::Forms::write_small), unfolding(crate::specs::Line::meaning))]
 pub(crate) fn parse(line: &[u8]) -> Option<Call>
     ensures { result ≡ meaning line.now }
 {
