@@ -19,6 +19,7 @@ fn fits_at(form: u8, c: u8) -> bool
     }
 }
 
+#[tactic(auto, using(crate::proofs::Forms::fits_length))]
 fn fits(form: &[u8], line: &[u8]) -> bool
     ensures { result ≡ fits form.now line.now }
 {

@@ -1,11 +1,11 @@
 -- `fits` meets its contract: it is as long, and each byte fits. Assumes nothing.
-use Rattle.std.proofs.Common.{ℕ, sym, ◌∙◌, rules}
-use borrow.Author.Tests.{tests, ne_eqb}
+use Rattle.std.proofs.Common.{ℕ, ◌∙◌, rules}
+use borrow.Author.Tests.{tests}
 use Rattle.std.proofs.lemmas.Iterator.{YieldsList-from_slice, YieldsList-from_zip}
 use Rattle.std.proofs.lemmas.Iterator.Consumers.{YieldsList-at}
 use Rattle.std.proofs.lemmas.Iterator.Search.{all_from_yields_List}
 use Rattle.lines.specs.Line.{fits_at}
-use Rattle.lines.proofs.Forms.{fits_all, fits_length}
+use Rattle.lines.proofs.Forms.{fits_all}
 use Rattle.lines.proofs.line.fits.Goals as goal
 
 pub returns-then-form-line : goal.returns-then-form-line
@@ -16,6 +16,3 @@ returns-then-form-line c =
     (YieldsList-from_zip (YieldsList-at c.zip.ensures.first (YieldsList-from_slice form c.iter.ensures.rest)) (YieldsList-at c.zip.ensures.second (YieldsList-from_slice line c.iter-then-form-line.ensures.rest)))
     (λ x b q k. search (rules, tests))
     ∙ fits_all form line c.if-form-line.true
-
-pub returns-else-form-line : goal.returns-else-form-line
-returns-else-form-line c = ne_eqb _ _ c.if-form-line.false ∙ sym (fits_length _ _ (λ e. c.if-form-line.false (sym e)))
