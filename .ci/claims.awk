@@ -8,7 +8,8 @@ function fault(why) { faults = faults (faults ? "; " : "") why }
 
 # What the 'ensures' equate, each 'NAME { LEFT ≡ DEFINITION }', of which only a single one may lack its name: into said[], by
 # which of them the result is equated ("") or what lies behind a parameter at exit; into lends, whether it is what lies behind
-# the result, a '&'; into clauses and definitions, how many there are and their text.
+# the result, a '&'; into clauses and definitions, how many there are and their text. A trait's may bound what another equates, as
+# its users know no more of it.
 function promise(says, n,   i, left, definition, at) {
     split("", said)
     definitions = ""
@@ -20,14 +21,14 @@ function promise(says, n,   i, left, definition, at) {
         sub(/ *} *$/, "", definition)
         at = index(definition, " ≡ ")
         left = substr(definition, 1, at - 1)
-        definition = "`" substr(definition, at + length(" ≡ ")) "`"
+        definition = "`" (at ? substr(definition, at + length(" ≡ ")) : definition) "`"
         if (left == "result") said[""] = i
         else if (left == "result.now" && says[1] ~ /-> &/ && says[1] !~ /-> &('[a-z]+ )?mut /) { said[""] = i; lends = 1 }
         else if (left ~ /^[a-z_0-9]+\.new$/) {
             sub(/\.new$/, "", left)
             said[left] = i
             definition = "behind `" left "`: " definition
-        } else fault("an 'ensures' equates neither the result nor what lies behind a '&mut'")
+        } else if (at || !trait) fault("an 'ensures' equates neither the result nor what lies behind a '&mut'")
         definitions = definitions (i > 1 ? "; " : "") definition
     }
     gsub(/\|/, "\\|", definitions)
@@ -62,8 +63,8 @@ function proof(signature,   params, param, i, lent, lasts) {
 }
 
 # What a promise is stated over where a function has a type parameter 'T: BOUND', of a bound that is copied: the type, its laws and
-# that it is copied; and for the bound and each trait above it the ghost members and the table of functions. So a claim holds for
-# every type and every 'impl'. Of these the kinds of the parameters take the first three.
+# that it is copied; and for a bound of the crate and each trait above it the ghost members and the table of functions. So a claim
+# holds for every type and every 'impl'. Of these the kinds of the parameters take the first three.
 function generics(head,   bound) {
     if (!match(head, /fn [A-Za-z0-9_]+<[A-Z][A-Za-z]*: [A-Za-z]+>/)) {
         if (head ~ /fn [A-Za-z0-9_]+<[A-Z]/) fault("its type parameters are not one with one bound")
@@ -71,6 +72,7 @@ function generics(head,   bound) {
     }
     bound = substr(head, RSTART, RLENGTH)
     gsub(/.*: |>/, "", bound)
+    if (bound == "Copy") return 3
     if (!((crate, bound) in above)) fault("its bound, " bound ", is no trait of its crate")
     return 3 + 2 * (1 + above[crate, bound])
 }
@@ -136,7 +138,7 @@ pass == 1 {
         above[crate, declared] = traits ~ /^:/ ? 1 + gsub(/ \+ /, "", traits) : 0
     }
     if (declared && /^ *fn /) { method = $2; sub(/[(<].*/, "", method) }
-    if (declared && /^ *ensures .*;$/) { sub(/^ */, " "); sub(/;$/, " "); promised[crate, declared, method] = promised[crate, declared, method] $0 }
+    if (declared && /^ *ensures /) { sub(/^ */, " "); sub(/;$/, " "); promised[crate, declared, method] = promised[crate, declared, method] $0 }
     next
 }
 /^impl[ <]/ {

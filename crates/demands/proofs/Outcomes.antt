@@ -23,10 +23,10 @@ pub outcomes : Outcomes
 outcomes = record {
   -- proofs, by .ci/claims write
   -- masks
-  U8FieldIsZero = λ κs a x y v w p q. (same p q, refl);
-  U16FieldIsZero = λ κs a x y v w p q. (same p q, refl);
-  agree = λ g1 g2 g3 g4 g5 g6 g7 g8 g9 g10 g11 κs a x y v w p q. (same p q, refl);
-  clash = λ g1 g2 g3 g4 g5 g6 g7 g8 g9 g10 g11 κs a x y v w p q. (same p q, refl);
+  U8FieldBits = λ κs a x y v w p q. (same p.0 q.0, refl);
+  U16FieldBits = λ κs a x y v w p q. (same p.0 q.0, refl);
+  agree = λ g1 g2 g3 g4 g5 g6 g7 κs a x y v w p q. (same p q, refl);
+  clash = λ g1 g2 g3 g4 g5 g6 g7 κs a x y v w p q. (same p q, refl);
   gate = λ κs a x y v w p q. (same p q, refl);
   -- pieces
   join = λ κs a x y v w p q. (same p q, refl);
@@ -87,6 +87,7 @@ outcomes = record {
   -- chip
   RefusalNumber = λ κs a x y v w p q. (same p q, refl);
   AnswerValues = λ κs a x y v w p q. (same p q, refl);
+  answer_refuse = λ g1 g2 g3 κs a x y v w p q. (same p q, refl);
   answer_miscounted = λ κs a x y v w p q. (same p q, refl);
   SystemGranted = λ κs a x y v w p q. (same p q, refl);
   SystemPerform = λ κs a x y v w p q. (same p q, refl);

@@ -3,8 +3,8 @@
 -- for each. `.ci/claims write` writes the lists from the sources, and the gate sees that they are current.
 -- imports, by .ci/claims write
 -- masks
-use Rattle.masks.proofs.U8Field.is_zero as U8FieldIsZero
-use Rattle.masks.proofs.U16Field.is_zero as U16FieldIsZero
+use Rattle.masks.proofs.U8Field.bits as U8FieldBits
+use Rattle.masks.proofs.U16Field.bits as U16FieldBits
 use Rattle.masks.proofs.agree as agree
 use Rattle.masks.proofs.clash as clash
 use Rattle.masks.proofs.gate as gate
@@ -67,6 +67,7 @@ use Rattle.registers.proofs.unit.Unit.segment as UnitSegment
 -- chip
 use Rattle.chip.proofs.answer.Refusal.number as RefusalNumber
 use Rattle.chip.proofs.answer.Answer.values as AnswerValues
+use Rattle.chip.proofs.answer.refuse as answer_refuse
 use Rattle.chip.proofs.answer.miscounted as answer_miscounted
 use Rattle.chip.proofs.system.System.granted as SystemGranted
 use Rattle.chip.proofs.system.System.perform as SystemPerform
@@ -96,10 +97,10 @@ use Rattle.demands.specs.Promises.{AtMostOne, AtMostOneBehind}
 pub record Outcomes : Type 2 where
   -- fields, by .ci/claims write
   -- masks
-  pub U8FieldIsZero : AtMostOne U8FieldIsZero.Kinds.ps U8FieldIsZero.Kinds.r U8FieldIsZero.Reads.Post
-  pub U16FieldIsZero : AtMostOne U16FieldIsZero.Kinds.ps U16FieldIsZero.Kinds.r U16FieldIsZero.Reads.Post
-  pub agree : (g1 g2 g3 g4 g5 g6 g7 g8 g9 g10 g11 : _) → AtMostOne (agree.Kinds.ps g1 g2 g3) (agree.Kinds.r g1 g2 g3) (agree.Reads.Post g1 g2 g3 g4 g5 g6 g7 g8 g9 g10 g11)
-  pub clash : (g1 g2 g3 g4 g5 g6 g7 g8 g9 g10 g11 : _) → AtMostOne (clash.Kinds.ps g1 g2 g3) (clash.Kinds.r g1 g2 g3) (clash.Reads.Post g1 g2 g3 g4 g5 g6 g7 g8 g9 g10 g11)
+  pub U8FieldBits : AtMostOne U8FieldBits.Kinds.ps U8FieldBits.Kinds.r U8FieldBits.Reads.Post
+  pub U16FieldBits : AtMostOne U16FieldBits.Kinds.ps U16FieldBits.Kinds.r U16FieldBits.Reads.Post
+  pub agree : (g1 g2 g3 g4 g5 g6 g7 : _) → AtMostOne (agree.Kinds.ps g1 g2 g3) (agree.Kinds.r g1 g2 g3) (agree.Reads.Post g1 g2 g3 g4 g5 g6 g7)
+  pub clash : (g1 g2 g3 g4 g5 g6 g7 : _) → AtMostOne (clash.Kinds.ps g1 g2 g3) (clash.Kinds.r g1 g2 g3) (clash.Reads.Post g1 g2 g3 g4 g5 g6 g7)
   pub gate : AtMostOne gate.Kinds.ps gate.Kinds.r gate.Reads.Post
   -- pieces
   pub join : AtMostOne join.Kinds.ps join.Kinds.r join.Reads.Post
@@ -160,6 +161,7 @@ pub record Outcomes : Type 2 where
   -- chip
   pub RefusalNumber : AtMostOne RefusalNumber.Kinds.ps RefusalNumber.Kinds.r RefusalNumber.Reads.Post
   pub AnswerValues : AtMostOne AnswerValues.Kinds.ps AnswerValues.Kinds.r AnswerValues.Reads.Post
+  pub answer_refuse : (g1 g2 g3 : _) → AtMostOne (answer_refuse.Kinds.ps g1 g2 g3) (answer_refuse.Kinds.r g1 g2 g3) (answer_refuse.Reads.Post g1 g2 g3)
   pub answer_miscounted : AtMostOne answer_miscounted.Kinds.ps answer_miscounted.Kinds.r answer_miscounted.Reads.Post
   pub SystemGranted : AtMostOne SystemGranted.Kinds.ps SystemGranted.Kinds.r SystemGranted.Reads.Post
   pub SystemPerform : AtMostOne SystemPerform.Kinds.ps SystemPerform.Kinds.r SystemPerform.Reads.Post
