@@ -4,19 +4,23 @@
 --     accepted_exactly      there is none exactly when the length fits, each block adds up, and the image could satisfy 01
 --     accepted         what that says of each block, and of the system
 -- Assumes nothing.
-use Rattle.std.proofs.Common.{◌≡◌, ℕ, ◌*◌, ◌/◌, ◌%◌, ◌^◌, ◌<◌, ◌≤◌, Bool, true, false, cond, not, ◌&&◌, ◌||◌, eqb, ltb, ◌≢◌, ◌↔◌, List, [], ◌∷◌, ◌++◌, length, refl, ap, true≢false, arith, lit<, eqb-true}
+use Rattle.std.proofs.Common.{◌≡◌, ℕ, ◌*◌, ◌/◌, ◌%◌, ◌^◌, ◌<◌, ◌≤◌, Bool, true, false, cond, not, ◌&&◌, ◌||◌, eqb, ltb, ◌≢◌, ◌↔◌, List, [], ◌∷◌, ◌++◌, length, sym, refl, ap, ◌∙◌, true≢false, arith, eqb-true, Ok, Err}
 use mathlib.Core.Bool.{and-eq-true_iff}
 use borrow.Author.Tests.{eqb-false, not-false}
 use Rattle.masks.specs.Fields.{every}
 use Rattle.masks.proofs.Bits.{every_at}
 use Rattle.pieces.specs.Pieces.{pieces}
-use Rattle.chip.specs.Answer.{first_of, miscounted}
+use Rattle.std.specs.Prelude.{⊤}
+use Rattle.chip.specs.Answer.{passed, first_of, miscounted}
 use Rattle.chip.proofs.Counts.{well_counted}
 use Rattle.image.specs.Block.{size, count, adds_up}
 use Rattle.image.specs.Rules.{own, counted, same_shared, sound}
-use Rattle.image.specs.Image.{blocks, from_block, system_of, across, could_satisfy_01, misfit, refusals_at, refusal}
-use Rattle.image.proofs.Checked.{refusals_are}
-use Rattle.image.proofs.Refused.{Proper, first_past, first_stays, proper_append, proper_pieces, first_fits, none_of_both, past_row, none_of_pieces}
+use Rattle.image.specs.Refusals.{number, numbered, by_number}
+use Rattle.image.specs.Image.{blocks, from_block, system_of, across, could_satisfy_01, misfit, checks_at, checks, refusals, refusal}
+use Rattle.image.specs.declared.refusal.Refusal.{Refusal}
+use Rattle.image.specs.declared.refusal.Refusal.TheVariants.{Length, Check, Fields}
+use Rattle.image.proofs.Checked.{past, stays, past_check, none_of_both, none_of_pieces}
+use Rattle.image.proofs.Refused.{first_fits, numbered_proper, by_number_is, none_by_number}
 
 either : (a b : Bool) → a || b ≡ false → (a ≡ false) × (b ≡ false)
 either true b e = absurd (true≢false e)
@@ -36,30 +40,30 @@ well_sized bytes e =
     record { counted = both.1; some = omega arith; few = well_counted _ both.1; whole = omega arith }
 
 module _ (image : List ℕ) where
-  pub proper : (m : ℕ) → Proper (refusals_at image m)
-  proper m = (λ e. omega arith, lit< tt, (λ e. omega arith, lit< tt, tt))
-
   -- a refusal is a byte
   pub refusal_fits : refusal image < 2 ^ 8
-  refusal_fits =
-      rw (refusals_are image)
-      (first_fits ((8, misfit (length image)) ∷ pieces (blocks image) (refusals_at image) ++ (10, not (across image)) ∷ []) (
-        λ e. omega arith,
-        lit< tt,
-        proper_append (pieces (blocks image) (refusals_at image)) _ (proper_pieces (blocks image) (refusals_at image) proper) (λ e. omega arith, lit< tt, tt),
-      ))
+  unfolding refusals
+  refusal_fits = first_fits (refusals image) (numbered_proper (checks image))
+
+  -- it is that of another table which gives the same
+  refusal_by : (rows : List (Refusal × Bool)) → passed (checks image) ≡ passed rows → refusal image ≡ first_of (numbered rows)
+  unfolding refusals
+  refusal_by rows e = sym (by_number_is tt (checks image)) ∙ ap by_number e ∙ by_number_is tt rows
 
   pub refusal_length : misfit (length image) ≡ true → refusal image ≡ 8
-  refusal_length e = rw (refusals_are image, e) refl
+  unfolding refusals checks
+  refusal_length e = rw e refl
 
-  pub refusal_block : misfit (length image) ≡ false → first_of (pieces (blocks image) (refusals_at image)) ≢ 0
-      → refusal image ≡ first_of (pieces (blocks image) (refusals_at image))
-  refusal_block e n = rw (refusals_are image, e) (first_stays (pieces (blocks image) (refusals_at image)) _ n)
+  pub refusal_block : (r : Refusal) → misfit (length image) ≡ false → passed (pieces (blocks image) (checks_at image)) ≡ Err r
+      → refusal image ≡ number r
+  unfolding checks
+  refusal_block r e h = refusal_by ((r, true) ∷ []) (rw e (stays {A = ⊤} tt _ (pieces (blocks image) (checks_at image)) r h))
 
-  pub refusal_across : misfit (length image) ≡ false → first_of (pieces (blocks image) (refusals_at image)) ≡ 0
+  pub refusal_across : misfit (length image) ≡ false → passed (pieces (blocks image) (checks_at image)) ≡ Ok tt
       → refusal image ≡ cond (not (across image)) 10 0
-  refusal_across e z =
-      rw (refusals_are image, e) (first_past (pieces (blocks image) (refusals_at image)) ((10, not (across image)) ∷ []) (proper_pieces (blocks image) (refusals_at image) proper) z)
+  unfolding checks
+  refusal_across e h =
+      refusal_by ((Fields, not (across image)) ∷ []) (rw e (past {A = ⊤} tt _ (pieces (blocks image) (checks_at image)) h))
 
 -- ---- acceptance
 module _ (image : List ℕ) where
@@ -70,18 +74,18 @@ module _ (image : List ℕ) where
   abbrev fields : (m : ℕ) → Bool
   fields m = own m (from_block m image) && counted (blocks image) (from_block m image)
 
-  block_passes : (m : ℕ) → (first_of (refusals_at image m) ≡ 0) ↔ ((check m ≡ true) × (fields m ≡ true))
+  block_passes : (m : ℕ) → (passed (checks_at image m) ≡ Ok tt) ↔ ((check m ≡ true) × (fields m ≡ true))
   block_passes m =
-      let first = past_row 9 (not (check m)) (cond (not (fields m)) 10 0) (λ e. omega arith) in
-      let second = past_row 10 (not (fields m)) 0 (λ e. omega arith) in (
+      let first = past_check Check (not (check m)) (cond (not (fields m)) (Err Fields) (Ok tt)) in
+      let second = past_check Fields (not (fields m)) (Ok tt) in (
         λ e. (not-false _ (first.0 e).0, not-false _ (second.0 (first.0 e).1).0),
         λ h. first.1 (ap not h.0, second.1 (ap not h.1, refl)),
       )
 
-  blocks_pass : (first_of (pieces (blocks image) (refusals_at image)) ≡ 0)
+  blocks_pass : (passed (pieces (blocks image) (checks_at image)) ≡ Ok tt)
       ↔ ((every (blocks image) check ≡ true) × (every (blocks image) fields ≡ true))
   blocks_pass =
-      let all = none_of_pieces (refusals_at image) (proper image) (blocks image) in
+      let all = none_of_pieces (checks_at image) (blocks image) in
       let checks = every_at (blocks image) check in
       let fits = every_at (blocks image) fields in (
         λ e. (checks.1 (λ m h. ((block_passes m).0 (all.0 e m h)).0), fits.1 (λ m h. ((block_passes m).0 (all.0 e m h)).1)),
@@ -90,22 +94,23 @@ module _ (image : List ℕ) where
 
   pub accepted_exactly : (refusal image ≡ 0)
       ↔ ((misfit (length image) ≡ false) × (every (blocks image) (λ m. adds_up (from_block m image)) ≡ true) × (could_satisfy_01 image ≡ true))
-  unfolding could_satisfy_01
+  unfolding could_satisfy_01 refusals checks
   accepted_exactly =
-      let rows = pieces (blocks image) (refusals_at image) in
-      let last : List (ℕ × Bool) = (10, not (across image)) ∷ [] in
-      let fit = past_row 8 (misfit (length image)) (first_of (rows ++ last)) (λ e. omega arith) in
-      let two = none_of_both rows last (proper_pieces (blocks image) (refusals_at image) (proper image)) in
-      let end = past_row 10 (not (across image)) 0 (λ e. omega arith) in
-      let both = and-eq-true_iff (every (blocks image) fields) (across image) in
-      rw (refusals_are image) (
+      let rows = pieces (blocks image) (checks_at image) in
+      let last : List (Refusal × Bool) = (Fields, not (across image)) ∷ [] in
+      let none = none_by_number (checks image) in
+      let fit = past_check Length (misfit (length image)) (passed (rows ++ last)) in
+      let two = none_of_both rows last in
+      let end = past_check Fields (not (across image)) (Ok tt) in
+      let both = and-eq-true_iff (every (blocks image) fields) (across image) in (
         λ e.
-            let rest = two.0 (fit.0 e).1 in
+            let first = fit.0 (none.0 e) in
+            let rest = two.0 first.1 in
             let pass = blocks_pass.0 rest.0 in
-            ((fit.0 e).0, pass.0, both.1 (pass.1, not-false _ (end.0 rest.1).0)),
+            (first.0, pass.0, both.1 (pass.1, not-false _ (end.0 rest.1).0)),
         λ h.
             let could = both.0 h.2 in
-            fit.1 (h.0, two.1 (blocks_pass.1 (h.1, could.0), end.1 (ap not could.1, refl))),
+            none.1 (fit.1 (h.0, two.1 (blocks_pass.1 (h.1, could.0), end.1 (ap not could.1, refl)))),
       )
 
 -- what follows for each block, and for the system

@@ -1,11 +1,13 @@
 -- A list that is cut into pieces of one size, and what stands in its parts.
 --     pieces_alike     pieces that are the same one by one
 --     cut_front, cut   the first w * n elements, cut into n pieces; and all
---     zeros_taken      a part of zeros
+--     part_listed, zeros_taken      a part by its elements, and one of zeros
 --     all_listed       what holds of each element that is listed
 -- Assumes nothing.
-use Rattle.std.proofs.Common.{◌≡◌, ℕ, zero, suc, ◌+◌, ◌*◌, ◌<◌, ◌≤◌, List, [], ◌∷◌, ◌++◌, length, get_or, take, drop, replicate, sym, refl, ◌∙◌, ap₂, le_of_suc-le-suc, not-suc-le-zero, arith, take_all, take-add}
+use Rattle.std.proofs.Common.{◌≡◌, ℕ, zero, suc, ◌+◌, ◌*◌, ◌<◌, ◌≤◌, List, [], ◌∷◌, ◌++◌, length, get_or, take, drop, replicate, length-take, length-drop, get_or-drop, sym, refl, ◌∙◌, ap₂, le_of_suc-le-suc, not-suc-le-zero, arith, take_all, take-add}
+use Rattle.std.proofs.lemmas.List.{get_or-take}
 use Rattle.pieces.specs.Pieces.{list_of, pieces}
+use Rattle.pieces.proofs.Stores.{listed_by}
 
 module _ {A : Type 0} where
   pub pieces_alike : (n : ℕ) (f g : ℕ → List A) → ((m : ℕ) → m < n → f m ≡ g m) → pieces n f ≡ pieces n g
@@ -28,6 +30,11 @@ module _ {A : Type 0} where
   all_listed P d z zero f h i = z
   all_listed P d z (suc n) f h zero = h 0
   all_listed P d z (suc n) f h (suc i) = all_listed P d z n (λ k. f (suc k)) (λ k. h (suc k)) i
+
+pub part_listed : (from n : ℕ) (l : List ℕ) → from + n ≤ length l → take n (drop from l) ≡ list_of n (λ i. get_or l (from + i) 0)
+part_listed from n l h =
+    listed_by 0 n (take n (drop from l)) (λ i. get_or l (from + i) 0) (simp (length-take, length-drop) (omega arith))
+    (λ i k. rw (get_or-take n (drop from l) i 0 k, get_or-drop from l i 0) refl)
 
 pub zeros_taken : (n : ℕ) (l : List ℕ) → n ≤ length l → ((i : ℕ) → i < n → get_or l i 0 ≡ 0) → replicate n 0 ≡ take n l
 zeros_taken zero l h z = refl

@@ -1,6 +1,6 @@
 pub mod Words
-pub mod Refused
 pub mod Checked
+pub mod Refused
 pub mod Accepted
 pub mod Restored
 pub mod Sound

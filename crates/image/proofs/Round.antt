@@ -3,7 +3,7 @@
 --     system_back      it reads as the system
 --     form_refusal     it breaks no rule but those of `sound`: refused as 10 where the system breaks one of them, accepted otherwise
 -- Assumes nothing.
-use Rattle.std.proofs.Common.{◌≡◌, ℕ, suc, ◌+◌, ◌*◌, ◌/◌, ◌%◌, ◌^◌, ◌<◌, ◌≤◌, Bool, true, false, cond, not, ◌&&◌, ◌||◌, eqb, List, [], ◌∷◌, ◌++◌, length, drop, replicate, sym, refl, ap, ◌∙◌, append_assoc, append-nil, arith, get_or-drop, drop-drop, get_or-append-add, le-ltb, eq-eqb, ne_eqb}
+use Rattle.std.proofs.Common.{◌≡◌, ℕ, suc, ◌+◌, ◌*◌, ◌/◌, ◌%◌, ◌^◌, ◌<◌, ◌≤◌, Bool, true, false, cond, not, ◌&&◌, ◌||◌, eqb, List, [], ◌∷◌, ◌++◌, length, drop, replicate, sym, refl, ap, ◌∙◌, append_assoc, append-nil, arith, get_or-drop, drop-drop, get_or-append-add, le-ltb, eq-eqb, ne_eqb, Ok}
 use lib.ListN.{length-replicate, get_or-append}
 use lib.Seq.{get_or_at}
 use Rattle.masks.specs.Fields.{bit, every, field}
@@ -23,7 +23,7 @@ use Rattle.registers.proofs.Numbers.{small, rdp_fits}
 use Rattle.registers.proofs.Back.{held_l, held_rw, gsr_back, accumulator_back}
 use Rattle.chip.specs.System.{present, unit, descriptor}
 use Rattle.chip.specs.Reset.{blank}
-use Rattle.chip.specs.Answer.{first_of}
+use Rattle.chip.specs.Answer.{passed}
 use Rattle.chip.specs.Clean.{Clean}
 use Rattle.chip.proofs.Each.{filled_is}
 use Rattle.descriptors.specs.declared.descriptor.Descriptor.{Descriptor}
@@ -31,10 +31,10 @@ use Rattle.chip.specs.declared.system.System.{System}
 use Rattle.image.specs.Block.{size, number, count, rdp, place, ssr, reserved, words, adds_up, fields, check, block}
 use Rattle.image.specs.Block.{shared_of, unit_of, descriptor_of}
 use Rattle.image.specs.Rules.{clear, registers_clear, nvr_alone, allowed, own, same_shared, sound}
-use Rattle.image.specs.Image.{form, blocks, from_block, system_of, across, misfit, refusals_at, refusal}
+use Rattle.image.specs.Image.{form, blocks, from_block, system_of, across, misfit, checks_at, refusal}
 use Rattle.image.proofs.Words.{words_front, length_fields, length_block}
-use Rattle.image.proofs.Refused.{none_of_pieces}
-use Rattle.image.proofs.Accepted.{proper, refusal_across}
+use Rattle.image.proofs.Checked.{none_of_pieces}
+use Rattle.image.proofs.Accepted.{refusal_across}
 
 pub length_form : (s : System) → length s.shared.table ≡ 16 → length (form s) ≡ 512 * present s
 unfolding form
@@ -235,7 +235,7 @@ module _ (s : System) (c : Clean s) (some : 1 ≤ s.shared.board.count) (few : s
         le-ltb 6 (length (form s) / size) (omega arith),
       )
 
-  block_passes : (m : ℕ) → m < present s → first_of (refusals_at (form s) m) ≡ 0
+  block_passes : (m : ℕ) → m < present s → passed (checks_at (form s) m) ≡ Ok tt
   block_passes m h =
       let at = stands m h in
       let counted = count_back s table m at.0 c.shared.count in
@@ -257,5 +257,5 @@ module _ (s : System) (c : Clean s) (some : 1 ≤ s.shared.board.count) (few : s
 
   pub form_refusal : refusal (form s) ≡ cond (not (sound s)) 10 0
   form_refusal =
-      refusal_across (form s) fits (rw blocks_form ((none_of_pieces _ (proper (form s)) (present s)).1 block_passes))
+      refusal_across (form s) fits (rw blocks_form ((none_of_pieces (checks_at (form s)) (present s)).1 block_passes))
       ∙ ap (λ (b : Bool). cond (not b) 10 0) across_form

@@ -4,11 +4,11 @@ use Rattle.masks.specs.Fields.{every}
 use Rattle.pieces.specs.Pieces.{pieces}
 use Rattle.chip.specs.System.{present, each}
 use Rattle.chip.specs.Reset.{nothing}
-use Rattle.chip.specs.Answer.{first_of, miscounted}
+use Rattle.chip.specs.Answer.{decided, passed, first_of, miscounted}
 use Rattle.chip.specs.declared.system.System.{System}
 use Rattle.image.specs.Block.{size, adds_up, block, shared_of, unit_of, descriptor_of}
 use Rattle.image.specs.Rules.{own, counted, same_shared, sound}
-use Rattle.image.specs.Refusals.{checked, passed, numbered}
+use Rattle.image.specs.Refusals.{numbered}
 use Rattle.image.specs.declared.refusal.Refusal.{Refusal}
 use Rattle.image.specs.declared.refusal.Refusal.TheVariants.{Count, Length, Check, Fields}
 
@@ -69,9 +69,6 @@ unfoldable pub checks : (image : List ℕ) → List (Refusal × Bool)
 checks i = (Length, misfit (length i)) ∷ pieces (blocks i) (checks_at i) ++ (Fields, not (across i)) ∷ []
 
 -- by number; an image is accepted where none of these applies
-abbrev pub refusals_at : (image : List ℕ) (m : ℕ) → List (ℕ × Bool)
-refusals_at i m = numbered (checks_at i m)
-
 unfoldable pub refusals : (image : List ℕ) → List (ℕ × Bool)
 refusals i = numbered (checks i)
 
@@ -80,7 +77,7 @@ refusal i = first_of (refusals i)
 
 -- what reading it gives: the system, or the refusal
 unfoldable pub restored : (image : List ℕ) → Result System Refusal
-restored i = checked (checks i) (system_of i)
+restored i = decided (checks i) (system_of i)
 
 -- ---- "writing a state that couldn't be read back is 10": the checks of a save, after document 01's on the count
 abbrev pub save_checks : (bytes : ℕ) → System → List (Refusal × Bool)

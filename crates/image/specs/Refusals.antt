@@ -1,5 +1,6 @@
 -- What a save or a restore is refused by, and its number: document 02, P2.
-use Rattle.std.specs.Prelude.{ℕ, Bool, cond, List, [], ◌∷◌, map, Result, Ok, Err, ⊤}
+use Rattle.std.specs.Prelude.{ℕ, Bool, List, Result, Ok, Err}
+use Rattle.chip.specs.Answer.{numbered_by}
 use Rattle.image.specs.declared.refusal.Refusal.{Refusal}
 use Rattle.image.specs.declared.refusal.Refusal.TheVariants.{Count, Length, Check, Fields}
 
@@ -10,18 +11,9 @@ number Length = 8
 number Check = 9
 number Fields = 10
 
--- a table of checks in their order, each a refusal and when it is given: the first that applies decides, and where none does a is the result
-abbrev pub checked : {A : Type 0} → List (Refusal × Bool) → A → Result A Refusal
-checked [] a = Ok a
-checked (c ∷ cs) a = cond c.1 (Err c.0) (checked cs a)
-
--- whether none of them applies
-abbrev pub passed : List (Refusal × Bool) → Result ⊤ Refusal
-passed cs = checked cs tt
-
--- the same table by number
+-- a table of checks by number
 abbrev pub numbered : List (Refusal × Bool) → List (ℕ × Bool)
-numbered = map (λ (c : Refusal × Bool). (number c.0, c.1))
+numbered = numbered_by number
 
 -- and a result: zero, or the number of the refusal
 abbrev pub by_number : {A : Type 0} → Result A Refusal → ℕ

@@ -29,17 +29,14 @@ pub(crate) fn sum(b: &[u8], n: usize) -> u16
 pub(crate) fn shared_of(b: &Block) -> Shared
     ensures { result ≡ shared_of b.now }
 {
-    let table = [
-        b[2], b[3], b[4], b[5], b[6], b[7], b[8], b[9], b[10], b[11], b[12], b[13], b[14], b[15],
-        b[16], b[17],
-    ];
-    let gsr = Gsr::from(b[31]);
+    let mut table = [0u8; 16];
+    table.copy_from_slice(&b[2..18]);
     Shared {
         table,
-        gsr,
+        gsr: Gsr::from(b[31]),
         ivr: b[30],
         board: Board {
-            count: b[1] as usize,
+            count: usize::from(b[1]),
         },
     }
 }
@@ -47,9 +44,8 @@ pub(crate) fn shared_of(b: &Block) -> Shared
 pub(crate) fn unit_of(b: &Block) -> Unit
     ensures { result ≡ unit_of b.now }
 {
-    let values = [
-        b[18], b[19], b[20], b[21], b[22], b[23], b[24], b[25], b[26],
-    ];
+    let mut values = [0u8; 9];
+    values.copy_from_slice(&b[18..27]);
     Unit {
         accumulator: unit::accumulator_of(values, pieces::join(b[27], b[28])),
         dp: b[29],
@@ -118,7 +114,7 @@ fn reserved_zero(b: &Block) -> bool
 pub(crate) fn own(b: &Block, m: usize) -> bool
     ensures { result ≡ own m b.now }
 {
-    (b[0] as usize == m)
+    (usize::from(b[0]) == m)
         & registers_clear(b)
         & nvr_alone(b[33])
         & statuses_allowed(b)

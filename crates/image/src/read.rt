@@ -4,15 +4,15 @@ ghost use Rattle.masks.specs.Fields.{every};
 ghost use Rattle.pieces.specs.Pieces.{pieces};
 ghost use Rattle.chip.specs.System.{each};
 ghost use Rattle.chip.specs.Reset.{nothing};
+ghost use Rattle.chip.specs.Answer.{passed};
 ghost use Rattle.image.specs.Block.{unit_of, descriptor_of};
 ghost use Rattle.image.specs.Rules.{same_shared, sound};
-ghost use Rattle.image.specs.Refusals.{passed};
 ghost use Rattle.image.specs.Image.{block_at, system_in, block_checks, restored};
 
 use crate::block::{Block, SIZE};
 use crate::refusal::Refusal;
 use crate::{block, rules};
-use chip::answer;
+use chip::answer::{miscounted, refuse};
 use chip::system::System;
 use descriptors::descriptor::Descriptor;
 use registers::unit::Unit;
@@ -22,13 +22,8 @@ use std::array;
 fn block_refusal(b: &Block, m: usize, n: usize) -> Result<(), Refusal>
     ensures { result ≡ passed (block_checks n m b.now) }
 {
-    if block::sum(b, 256) != 0 {
-        return Err(Refusal::Check);
-    }
-    if !(block::own(b, m) & (b[1] as usize == n)) {
-        return Err(Refusal::Fields);
-    }
-    Ok(())
+    refuse(Refusal::Check, block::sum(b, 256) != 0)?;
+    refuse(Refusal::Fields, !(block::own(b, m) & (usize::from(b[1]) == n)))
 }
 
 // Block by block: the first bad one decides.
@@ -93,18 +88,14 @@ fn across(blocks: &[Block], system: System) -> bool
 }
 
 // The system of an image that is accepted, or the refusal.
+#[tactic(auto, unfolding(crate::specs::Image::restored, crate::specs::Image::checks))]
 pub fn restore(image: &[u8]) -> Result<System, Refusal>
     ensures { result ≡ restored image.now }
 {
     let (blocks, rest) = image.as_chunks::<SIZE>();
-    if !rest.is_empty() | answer::miscounted(blocks.len()) {
-        return Err(Refusal::Length);
-    }
+    refuse(Refusal::Length, !rest.is_empty() | miscounted(blocks.len()))?;
     examined(blocks)?;
     let system = system_of(blocks);
-    if across(blocks, system) {
-        Ok(system)
-    } else {
-        Err(Refusal::Fields)
-    }
+    refuse(Refusal::Fields, !across(blocks, system))?;
+    Ok(system)
 }

@@ -5,24 +5,19 @@ ghost use Rattle.image.specs.Refusals.{number};
 #[derive(Clone, Copy, PartialEq, Eq)]
 pub enum Refusal {
     // A state with no unit, or with more than six.
-    Count,
+    Count = 1,
     // The image's length.
-    Length,
+    Length = 8,
     // A block's check.
-    Check,
+    Check = 9,
     // Its fields, and the rules across blocks.
-    Fields,
+    Fields = 10,
 }
 
 impl Refusal {
     pub fn number(self) -> u8
         ensures { result ≡ number self }
     {
-        match self {
-            Refusal::Count => 1,
-            Refusal::Length => 8,
-            Refusal::Check => 9,
-            Refusal::Fields => 10,
-        }
+        self as u8
     }
 }

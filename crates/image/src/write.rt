@@ -9,7 +9,7 @@ ghost use Rattle.image.specs.Image.{saving, saved};
 
 use crate::refusal::Refusal;
 use crate::{block, rules};
-use chip::answer;
+use chip::answer::{miscounted, refuse};
 use chip::system::System;
 use descriptors::descriptor::Descriptor;
 use registers::shared::Shared;
@@ -89,20 +89,15 @@ fn put_blocks(image: &mut [u8], system: System, n: usize)
 }
 
 // A refusal writes nothing.
+#[tactic(auto, unfolding(crate::specs::Image::saving, crate::specs::Image::saved))]
 pub fn save(image: &mut [u8], system: System) -> Result<(), Refusal>
     ensures value { result ≡ saving (length image.old) system }
     ensures image_after { image.new ≡ saved image.old system }
 {
     let n = system.shared.board.count;
-    if answer::miscounted(n) {
-        return Err(Refusal::Count);
-    }
-    if image.len() != block::SIZE * n {
-        return Err(Refusal::Length);
-    }
-    if !rules::sound(system) {
-        return Err(Refusal::Fields);
-    }
+    refuse(Refusal::Count, miscounted(n))?;
+    refuse(Refusal::Length, image.len() != block::SIZE * n)?;
+    refuse(Refusal::Fields, !rules::sound(system))?;
     put_blocks(image, system, n);
     Ok(())
 }

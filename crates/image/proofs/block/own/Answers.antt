@@ -7,6 +7,7 @@ pub returns : goal.returns
 unfolding own
 returns c =
     rw (
+      c.from.ensures,
       c.registers_clear.ensures,
       c.nvr_alone.ensures,
       c.statuses_allowed.ensures,

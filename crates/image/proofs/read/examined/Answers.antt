@@ -3,7 +3,7 @@ use Rattle.std.proofs.Common.{◌≡◌, ℕ, Bool, List, length, sym, refl, ap,
 use Rattle.std.proofs.lemmas.Result.{err_from_is_err_and}
 use Rattle.pieces.specs.Pieces.{pieces}
 use Rattle.image.specs.declared.refusal.Refusal.{Refusal}
-use Rattle.image.specs.Refusals.{passed}
+use Rattle.chip.specs.Answer.{passed}
 use Rattle.image.specs.Image.{block_at, block_checks}
 use Rattle.image.proofs.Checked.{one_more, stopped}
 use Rattle.image.proofs.read.examined.Goals as goal

@@ -1,7 +1,7 @@
 -- What the loop of `examined` keeps.
 use Rattle.std.proofs.Common.{◌≡◌, ◌≤◌, length, Ok}
 use Rattle.pieces.specs.Pieces.{pieces}
-use Rattle.image.specs.Refusals.{passed}
+use Rattle.chip.specs.Answer.{passed}
 use Rattle.image.specs.Image.{block_at, block_checks}
 use Rattle.image.proofs.read.examined.Given as goal
 
