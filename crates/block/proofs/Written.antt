@@ -1,20 +1,9 @@
--- What is written of a word, and of the first n of a list.
---     word_bytes     `to_le_bytes`
+-- What is written of the first n of a list.
 --     of_first       the pieces of the first n elements
 -- Assumes nothing.
-use Rattle.std.proofs.Common.{◌≡◌, ℕ, zero, suc, ◌^◌, ◌<◌, ◌≤◌, List, ◌++◌, length, get_or, take, refl, ap₂, arith, lit<, length-take}
-use Rattle.std.specs.Int.{w16, to_le_bytes}
-use Rattle.std.proofs.lemmas.Nat.{le_bytes_2}
+use Rattle.std.proofs.Common.{◌≡◌, ℕ, zero, suc, ◌<◌, ◌≤◌, List, ◌++◌, length, get_or, take, refl, ap₂, arith, length-take}
 use Rattle.std.proofs.lemmas.List.{get_or-take}
-use Rattle.pieces.specs.Pieces.{pieces, low_first}
-
-pub word_bytes : (x : ℕ) → x < 2 ^ 16 → to_le_bytes w16 x ≡ low_first x
-word_bytes x h = le_bytes_2 (low_first x) x refl each (omega arith)
-  where
-    each : (i : ℕ) → get_or (low_first x) i 0 < 256
-    each zero = omega arith
-    each (suc zero) = omega arith
-    each (suc (suc i)) = lit< tt
+use Rattle.pieces.specs.Pieces.{pieces}
 
 alike : (n : ℕ) (f g : ℕ → List ℕ) → ((m : ℕ) → m < n → f m ≡ g m) → pieces n f ≡ pieces n g
 unfolding pieces

@@ -1,13 +1,9 @@
 -- The words of a block that is written from the front.
 --     words_front                    the first words are those of the bytes in front
---     word_bytes                     `to_be_bytes`
 --     length_fields, length_block    how many bytes stand before the check, and with it
 -- Assumes nothing.
-use Rattle.std.proofs.Common.{◌≡◌, ℕ, zero, suc, ◌+◌, ◌*◌, ◌^◌, ◌<◌, ◌≤◌, List, ◌++◌, length, get_or, refl, arith, lit<, length-append}
-use Rattle.std.specs.Int.{w16, to_be_bytes}
-use Rattle.std.proofs.lemmas.Nat.{be_bytes_2}
+use Rattle.std.proofs.Common.{◌≡◌, ℕ, zero, suc, ◌+◌, ◌*◌, ◌≤◌, List, ◌++◌, length, refl, arith, length-append}
 use lib.ListN.{length-replicate, get_or-append}
-use Rattle.pieces.specs.Pieces.{high_first}
 use Rattle.pieces.proofs.Parts.{length_pieces}
 use Rattle.descriptors.specs.Descriptor.{bytes}
 use Rattle.chip.specs.System.{descriptor}
@@ -19,14 +15,6 @@ unfolding words
 words_front zero p r h = refl
 words_front (suc n) p r h =
     rw (words_front n p r (omega arith), get_or-append p r 0 (2 * n) (omega arith), get_or-append p r 0 (2 * n + 1) (omega arith))
-
-pub word_bytes : (x : ℕ) → x < 2 ^ 16 → to_be_bytes w16 x ≡ high_first x
-word_bytes x h = be_bytes_2 (high_first x) x refl each (omega arith)
-  where
-    each : (i : ℕ) → get_or (high_first x) i 0 < 256
-    each zero = omega arith
-    each (suc zero) = omega arith
-    each (suc (suc i)) = lit< tt
 
 pub length_fields : (s : System) (m : ℕ) → length s.shared.table ≡ 16 → length (fields s m) ≡ 510
 unfolding fields

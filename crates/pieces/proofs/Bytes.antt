@@ -1,17 +1,19 @@
 -- Bytes and words.
 --     bytes_drop, bytes_take, bytes_zero    what is left of bytes, and zeros, are bytes
 --     word_fits, word_back                  a word of two bytes, and the two bytes of a word
+--     word_bytes                            `to_be_bytes` and `to_le_bytes`
 --     within_all, take_within, zeroed_front    as many as there are
 -- Assumes nothing.
 use Prim.Native.Nat.{ℕ, zero, suc, ◌+◌, ◌/◌, ◌%◌, ◌^◌, ◌<◌, ◌≤◌, min}
 use mathlib.Core.Path.{◌≡◌, ap}
-use mathlib.Core.List.{List, [], ◌∷◌, ◌++◌}
+use mathlib.Core.List.{List, [], ◌∷◌, ◌++◌, reverse}
 use native.Mathlib.Nat.{min-le_right, min-eq_left, min-zero, zero-min, suc-min-suc}
 use native.Mathlib.Omega.{arith}
 use lib.Dec.{lit<}
 use lib.ListN.{length, take, drop, replicate}
 use lib.Seq.{get_or-drop}
-use Rattle.pieces.specs.Pieces.{Bytes, zeroed, join}
+use Rattle.std.specs.Int.{w16, to_be_bytes, to_le_bytes}
+use Rattle.pieces.specs.Pieces.{Bytes, zeroed, join, high_first, low_first}
 
 pub bytes_drop : (n : ℕ) (b : List ℕ) → Bytes b → Bytes (drop n b)
 bytes_drop n b h i = rw get_or-drop (h (n + i))
@@ -32,6 +34,11 @@ word_fits h k = omega arith
 
 pub word_back : (x : ℕ) → join (x / 256) (x % 256) ≡ x
 word_back x = omega arith
+
+pub word_bytes : (x : ℕ) → x < 2 ^ 16 → (to_be_bytes w16 x ≡ high_first x) × (to_le_bytes w16 x ≡ low_first x)
+word_bytes x h =
+    let low : to_le_bytes w16 x ≡ low_first x = ap (λ (high : ℕ). x % 256 ∷ high ∷ []) (omega arith) in
+    (ap reverse low, low)
 
 pub within_all : (r wanted all : ℕ) → r ≡ min wanted all → r ≤ all
 within_all r wanted all e = rw e (min-le_right wanted all)

@@ -4,7 +4,7 @@ use Rattle.pieces.specs.Pieces.{list_of, low_first}
 use Rattle.pieces.proofs.Parts.{replaced, further_stores}
 use Rattle.registers.specs.Unit.{ac, marks, held_lsr}
 use Rattle.block.specs.Layout.{unit_bytes}
-use Rattle.block.proofs.Written.{word_bytes}
+use Rattle.pieces.proofs.Bytes.{word_bytes}
 use Rattle.block.proofs.write.put_unit.Goals as goal
 
 pub returns : goal.returns
@@ -17,7 +17,7 @@ returns c =
     let front : copied ≡ bytes ++ drop 9 e =
     ap (λ (p : List ℕ). p ++ drop 9 e) (c.copy_from_slice.ensures.after ∙ c.values-values.ensures) in
     let word : c.to_le_bytes-marks.result ≡ low_first (marks u) =
-    c.to_le_bytes-marks.ensures ∙ rw c.marks.ensures (word_bytes (marks u) (omega arith)) in
+    c.to_le_bytes-marks.ensures ∙ rw c.marks.ensures (word_bytes (marks u) (omega arith)).1 in
     let marked = replaced bytes (low_first (marks u)) e copied c.copy_from_slice-2.new.self 9 2 11 (refl, front) refl refl
     (c.copy_from_slice-2.ensures.after ∙ word) in
     let registers : List ℕ = u.dp ∷ held_lsr u ∷ u.rdp ∷ 0 ∷ 0 ∷ [] in
