@@ -29,94 +29,31 @@ module _ (b : List ℕ) where
   unfolding own
   own_front m =
       rw (
-        at 0 (lit< tt),
-        at 27 (lit< tt),
-        at 28 (lit< tt),
-        at 29 (lit< tt),
-        at 31 (lit< tt),
-        at 32 (lit< tt),
-        at 33 (lit< tt),
         every_alike 32 (λ n. allowed (ssr n (take size b))) (λ n. allowed (ssr n b)) (λ n l. ap (λ x. allowed x) (at (34 + 9 * n + 7) (omega arith))),
         every_alike 188 (λ i. eqb (reserved (take size b) i) 0) (λ i. eqb (reserved b i) 0) (λ i l. ap (λ x. eqb x 0) (at (322 + i) (omega arith))),
-      ) refl
+      ) (grind (arith, at))
 
   pub checks_front : (n m : ℕ) → block_checks n m (take size b) ≡ block_checks n m b
   checks_front n m = rw (words_front 256 (omega arith), own_front m, at 1 (lit< tt)) refl
 
   pub unit_front : unit_of (take size b) ≡ unit_of b
   unfolding unit_of
-  unit_front =
-      rw (
-        at 18 (lit< tt),
-        at 19 (lit< tt),
-        at 20 (lit< tt),
-        at 21 (lit< tt),
-        at 22 (lit< tt),
-        at 23 (lit< tt),
-        at 24 (lit< tt),
-        at 25 (lit< tt),
-        at 26 (lit< tt),
-        at 27 (lit< tt),
-        at 28 (lit< tt),
-        at 29 (lit< tt),
-        at 32 (lit< tt),
-        at 33 (lit< tt),
-      ) refl
+  unit_front = grind (arith, at)
 
   pub shared_front : shared_of (take size b) ≡ shared_of b
   unfolding shared_of
-  shared_front =
-      rw (
-        at 1 (lit< tt),
-        at 2 (lit< tt),
-        at 3 (lit< tt),
-        at 4 (lit< tt),
-        at 5 (lit< tt),
-        at 6 (lit< tt),
-        at 7 (lit< tt),
-        at 8 (lit< tt),
-        at 9 (lit< tt),
-        at 10 (lit< tt),
-        at 11 (lit< tt),
-        at 12 (lit< tt),
-        at 13 (lit< tt),
-        at 14 (lit< tt),
-        at 15 (lit< tt),
-        at 16 (lit< tt),
-        at 17 (lit< tt),
-        at 30 (lit< tt),
-        at 31 (lit< tt),
-      ) refl
+  shared_front = grind (arith, at)
 
   pub descriptor_front : (n : ℕ) → n < 32 → descriptor_of n (take size b) ≡ descriptor_of n b
   unfolding descriptor_of
-  descriptor_front n l =
-      let d = place n in
-      simp get_or-drop (
-      rw (
-        at (d + 0) (omega arith),
-        at (d + 1) (omega arith),
-        at (d + 2) (omega arith),
-        at (d + 3) (omega arith),
-        at (d + 4) (omega arith),
-        at (d + 5) (omega arith),
-        at (d + 6) (omega arith),
-        at (d + 7) (omega arith),
-        at (d + 8) (omega arith),
-      ) refl
-      )
+  descriptor_front n l = simp get_or-drop (grind (arith, at))
 
 pub same_front : (a b : List ℕ) → same_shared (take size a) (take size b) ≡ same_shared a b
 unfolding same_shared
 same_front a b =
-    rw (
-      every_alike 16 (λ i. eqb (get_or (take size a) (2 + i) 0) (get_or (take size b) (2 + i) 0)) (λ i. eqb (get_or a (2 + i) 0) (get_or b (2 + i) 0))
-          (λ i l. ap₂ (λ x y. eqb x y) (at a (2 + i) (omega arith)) (at b (2 + i) (omega arith))),
-      at a 30 (lit< tt),
-      at b 30 (lit< tt),
-      at a 31 (lit< tt),
-      at b 31 (lit< tt),
-    ) refl
+    rw (every_alike 16 (λ i. eqb (get_or (take size a) (2 + i) 0) (get_or (take size b) (2 + i) 0)) (λ i. eqb (get_or a (2 + i) 0) (get_or b (2 + i) 0))
+    (λ i l. ap₂ (λ x y. eqb x y) (at a (2 + i) (omega arith)) (at b (2 + i) (omega arith))))
+    (grind (arith, at))
 
 each_alike : {A : Type 0} (n : ℕ) (f g : ℕ → A → A) (xs : List A) → ((k : ℕ) (x : A) → k < n → f k x ≡ g k x) → each n f xs ≡ each n g xs
 unfolding each
