@@ -11,6 +11,7 @@ pub mod Again
 pub mod Back
 pub mod Chunks
 pub mod Listed
+pub mod Pairs
 pub mod Front
 pub mod Made
 pub mod Marks

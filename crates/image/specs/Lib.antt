@@ -1,4 +1,5 @@
 pub mod Block
 pub mod Rules
+pub mod Pairs
 pub mod Refusals
 pub mod Image

@@ -23,7 +23,8 @@ fn block_refusal(b: &Block, m: usize, n: usize) -> Result<(), Refusal>
     ensures { result ≡ passed (block_checks n m b.now) }
 {
     refuse(Refusal::Check, block::sum(b, 256) != 0)?;
-    refuse(Refusal::Fields, !(block::own(b, m) & (usize::from(b[1]) == n)))
+    let kept = block::own(b, m) & (usize::from(b[1]) == n);
+    refuse(Refusal::Fields, !kept)
 }
 
 // Block by block: the first bad one decides.

@@ -1,9 +1,8 @@
 // The rules across blocks (document 02, P2).
-ghost use Rattle.std.specs.Prelude.{◌≡◌, ◌+◌, ◌*◌, ◌<◌, ◌≤◌, not, ◌&&◌, length, nat_eq, slice_index, slice_index_or};
+ghost use Rattle.std.specs.Prelude.{◌≡◌, ◌+◌, ◌*◌, ◌<◌, ◌≤◌, Bool, nat_eq, slice_index};
 ghost use Rattle.masks.specs.Fields.{every};
-ghost use Rattle.descriptors.specs.Descriptor.{zeros, enabled, collides};
-ghost use Rattle.registers.specs.Unit.{no_unit};
 ghost use Rattle.image.specs.Rules.{same_shared, same_marked, agreed, apart, sound};
+ghost use Rattle.image.specs.Pairs.{Answers, AnswersOfTwo, each_with_those_before};
 
 use crate::block::Block;
 use chip::system::System;
@@ -34,40 +33,38 @@ fn same_marked(u: Unit, v: Unit) -> bool
         .all(|(a, b)| !(a.global & b.global) | (a.value == b.value))
 }
 
-// A unit with each below it.
-fn agreed_below(below: &[Unit], unit: Unit) -> bool
-    ensures { result ≡ every (length below.now) (λ k. same_marked unit (slice_index_or below.now k no_unit)) }
+// Whether each item that is asked about passes with each of those before it; of the others no pair is looked at.
+fn each_with_those_before<T, A: Fn(&T) -> bool, P: Fn(&T, &T) -> bool>(
+    items: &[T],
+    asked: A,
+    passes: P,
+) -> bool
+    requires asked { (f : A) (x : _) → A.pre f x }
+    requires passes { (f : P) (x y : _) → P.pre f x y }
+    ensures { (d : T) (a : T → Bool) (p : T → T → Bool) → Answers A.Fn asked a → AnswersOfTwo P.Fn passes p → result ≡ each_with_those_before d a p items.now }
 {
-    below.iter().all(|other| same_marked(unit, *other))
+    for (i, item) in items.iter().enumerate() {
+        if asked(item) && !items[..i].iter().all(|before| passes(item, before)) {
+            return false;
+        }
+    }
+    true
 }
 
+// The units present agree in the bytes that two of them mark.
 fn agreed(system: System) -> bool
     ensures { result ≡ agreed system }
 {
-    let n = system.present();
-    let units = &system.units[..n];
-    units
-        .iter()
-        .enumerate()
-        .all(|(m, unit)| agreed_below(&units[..m], *unit))
+    let units = &system.units[..system.present()];
+    each_with_those_before(units, |_| true, |unit, other| same_marked(*unit, *other))
 }
 
-// A descriptor with each before it, where it is enabled.
-fn apart_below(before: &[Descriptor], d: Descriptor) -> bool
-    ensures { result ≡ every (length before.now) (λ k. not (enabled d && collides d (slice_index_or before.now k zeros))) }
-{
-    !d.enabled() || !before.iter().any(|other| d.collides(other))
-}
-
+// No two descriptors clash. One that is not enabled is not asked about.
 fn apart(system: System) -> bool
     ensures { result ≡ apart system }
 {
-    let n = 32 * system.present();
-    let descriptors = &system.descriptors[..n];
-    descriptors
-        .iter()
-        .enumerate()
-        .all(|(i, d)| apart_below(&descriptors[..i], *d))
+    let descriptors = &system.descriptors[..32 * system.present()];
+    each_with_those_before(descriptors, |d| d.enabled(), |d, other| !d.collides(other))
 }
 
 // What a system in its written form can break of the rules.
