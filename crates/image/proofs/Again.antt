@@ -8,6 +8,7 @@ use Rattle.masks.proofs.Bits.{field_bits, field_cong}
 use Rattle.pieces.specs.Pieces.{Bytes, list_of, pieces, join, high_first, high_first_at}
 use Rattle.pieces.proofs.Bytes.{bytes_drop, word_fits}
 use Rattle.pieces.proofs.Stores.{taken_listed, at_listed}
+use Rattle.pieces.proofs.Parts.{pieces_alike}
 use Rattle.descriptors.specs.Descriptor.{bytes}
 use Rattle.registers.specs.Unit.{local, marked, accumulator_of, ac, held_lsr, marks as marks_of}
 use Rattle.registers.specs.Shared.{gsr_byte}
@@ -17,7 +18,7 @@ use Rattle.registers.specs.declared.shared.Shared.{Shared}
 use Rattle.chip.specs.declared.system.System.{System}
 use Rattle.image.specs.Block.{size, count, accumulator, marks, place, words, adds_up, fields, check, block, shared_of, unit_of, descriptor_of}
 use Rattle.image.proofs.Words.{words_front}
-use Rattle.image.proofs.Cut.{pieces_alike, cut_front, zeros_taken}
+use Rattle.image.proofs.Cut.{cut_front, zeros_taken}
 use Rattle.image.proofs.Owned.{Owned}
 
 -- the two bytes of a word of two bytes

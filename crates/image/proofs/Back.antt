@@ -10,6 +10,7 @@ use Rattle.masks.proofs.Bits.{every_at}
 use Rattle.pieces.specs.Pieces.{Bytes}
 use Rattle.pieces.proofs.Bytes.{bytes_drop}
 use Rattle.pieces.proofs.Stores.{listed_alike}
+use Rattle.pieces.proofs.Parts.{pieces_alike}
 use Rattle.descriptors.specs.Descriptor.{zeros}
 use Rattle.descriptors.specs.Clean.{CleanDescriptor}
 use Rattle.registers.specs.Unit.{no_unit}
@@ -26,7 +27,7 @@ use Rattle.image.specs.Rules.{same_shared}
 use Rattle.image.specs.Image.{form, blocks, from_block, system_of, refusal}
 use Rattle.image.proofs.Accepted.{Accepted, accepted}
 use Rattle.image.proofs.Sound.{sound_law}
-use Rattle.image.proofs.Cut.{pieces_alike, cut}
+use Rattle.image.proofs.Cut.{cut}
 use Rattle.image.proofs.Owned.{Owned, owned, shared_clean, unit_clean, descriptor_clean}
 use Rattle.image.proofs.Again.{Reads, block_back}
 

@@ -1,21 +1,14 @@
 -- A list that is cut into pieces of one size, and what stands in its parts.
---     pieces_alike     pieces that are the same one by one
 --     cut_front, cut   the first w * n elements, cut into n pieces; and all
 --     part_listed, zeros_taken      a part by its elements, and one of zeros
 --     all_listed       what holds of each element that is listed
 -- Assumes nothing.
-use Rattle.std.proofs.Common.{◌≡◌, ℕ, zero, suc, ◌+◌, ◌*◌, ◌<◌, ◌≤◌, List, [], ◌∷◌, ◌++◌, length, get_or, take, drop, replicate, length-take, length-drop, get_or-drop, sym, refl, ◌∙◌, ap₂, le_of_suc-le-suc, not-suc-le-zero, arith, take_all, take-add}
+use Rattle.std.proofs.Common.{◌≡◌, ℕ, zero, suc, ◌+◌, ◌*◌, ◌<◌, ◌≤◌, List, [], ◌∷◌, length, get_or, take, drop, replicate, length-take, length-drop, get_or-drop, sym, refl, ◌∙◌, ap₂, le_of_suc-le-suc, not-suc-le-zero, arith, take_all, take-add}
 use Rattle.std.proofs.lemmas.List.{get_or-take}
 use Rattle.pieces.specs.Pieces.{list_of, pieces}
 use Rattle.pieces.proofs.Stores.{listed_by}
 
 module _ {A : Type 0} where
-  pub pieces_alike : (n : ℕ) (f g : ℕ → List A) → ((m : ℕ) → m < n → f m ≡ g m) → pieces n f ≡ pieces n g
-  unfolding pieces
-  pieces_alike zero f g h = refl
-  pieces_alike (suc n) f g h =
-      ap₂ (λ (p q : List A). p ++ q) (pieces_alike n f g (λ m l. h m (omega arith))) (h n (omega arith))
-
   pub cut_front : (w n : ℕ) (l : List A) → pieces n (λ m. take w (drop (w * m) l)) ≡ take (w * n) l
   unfolding pieces
   cut_front w zero l = let none : w * 0 ≡ 0 = omega arith in rw none

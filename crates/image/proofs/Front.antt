@@ -7,14 +7,14 @@ use Rattle.std.proofs.lemmas.List.{get_or-take}
 use Rattle.std.specs.Simd.{first_chunks}
 use Rattle.masks.specs.Fields.{every}
 use Rattle.pieces.specs.Pieces.{pieces}
+use Rattle.pieces.proofs.Parts.{pieces_alike}
 use Rattle.chip.specs.System.{each}
 use Rattle.chip.specs.Reset.{nothing}
-use Rattle.image.specs.Block.{size, place, words, ssr, reserved, shared_of, unit_of, descriptor_of}
+use Rattle.image.specs.Block.{size, words, ssr, reserved, shared_of, unit_of, descriptor_of}
 use Rattle.image.specs.Rules.{allowed, own, same_shared}
 use Rattle.image.specs.Image.{blocks, from_block, block_at, system_of, system_in, block_checks, checks_at}
 use Rattle.image.proofs.Listed.{every_alike}
 use Rattle.image.proofs.Chunks.{length_chunks, chunk_at}
-use Rattle.image.proofs.Cut.{pieces_alike}
 
 module _ (b : List ℕ) where
   at : (i : ℕ) → i < size → get_or (take size b) i 0 ≡ get_or b i 0

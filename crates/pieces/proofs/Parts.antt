@@ -7,9 +7,10 @@
 --     further_stores    stores behind what is written
 --     begun, next, placed, ended    a loop that lends the part from w * m on to a function that writes piece m, or copies piece m there
 --     pieces_at    where piece m stands
+--     pieces_alike    pieces that are the same one by one
 -- Assumes nothing.
 use Prim.Native.Nat.{ℕ, zero, suc, ◌+◌, ◌*◌, ◌-◌, ◌<◌, ◌≤◌}
-use mathlib.Core.Path.{◌≡◌, refl, ap, ◌∙◌}
+use mathlib.Core.Path.{◌≡◌, refl, ap, ap₂, ◌∙◌}
 use mathlib.Core.List.{List, [], ◌∷◌, ◌++◌, append-nil, append_assoc}
 use mathlib.Core.Logic.{⊎_elim}
 use native.Mathlib.Nat.{le_of_suc-le-suc, not-suc-le-zero, eq-or-lt_of_le}
@@ -129,3 +130,9 @@ pieces_at w f h (suc n) m t l =
     ⊎_elim (λ (e : m ≡ n). (t, rw (e, append_assoc) (drop_at (pieces n f) (f n ++ t) (w * n) (length_pieces w f h n))))
     (λ k. let below = pieces_at w f h n m (f n ++ t) k in (below.0, rw append_assoc below.1))
     (eq-or-lt_of_le (le_of_suc-le-suc l))
+
+pub pieces_alike : {A : Type 0} (n : ℕ) (f g : ℕ → List A) → ((m : ℕ) → m < n → f m ≡ g m) → pieces n f ≡ pieces n g
+unfolding pieces
+pieces_alike zero f g h = refl
+pieces_alike {A} (suc n) f g h =
+    ap₂ (λ (p q : List A). p ++ q) (pieces_alike n f g (λ m l. h m (omega arith))) (h n (omega arith))

@@ -8,8 +8,7 @@ use Rattle.registers.specs.Shared.{gsr_byte}
 use Rattle.chip.specs.System.{unit, descriptor}
 use Rattle.descriptors.specs.declared.descriptor.Descriptor.{Descriptor}
 use Rattle.image.specs.Block.{fields}
-use Rattle.pieces.proofs.Parts.{Front, further, further_zeros, length_pieces}
-use Rattle.image.proofs.Cut.{pieces_alike}
+use Rattle.pieces.proofs.Parts.{Front, further, further_zeros, length_pieces, pieces_alike}
 use Rattle.image.proofs.write.put_fields.Goals as goal
 
 pub returns : goal.returns
