@@ -12,7 +12,8 @@ ghost use Rattle.image.specs.Image.{block_at, system_in, block_checks, restored}
 use crate::block::{Block, SIZE};
 use crate::refusal::Refusal;
 use crate::{block, rules};
-use chip::answer::{miscounted, refuse};
+use chip::answer;
+use chip::answer::refuse;
 use chip::system::System;
 use descriptors::descriptor::Descriptor;
 use registers::unit::Unit;
@@ -94,7 +95,8 @@ pub fn restore(image: &[u8]) -> Result<System, Refusal>
     ensures { result ≡ restored image.now }
 {
     let (blocks, rest) = image.as_chunks::<SIZE>();
-    refuse(Refusal::Length, !rest.is_empty() | miscounted(blocks.len()))?;
+    let misfit = !rest.is_empty() | answer::miscounted(blocks.len());
+    refuse(Refusal::Length, misfit)?;
     examined(blocks)?;
     let system = system_of(blocks);
     refuse(Refusal::Fields, !across(blocks, system))?;

@@ -9,7 +9,8 @@ ghost use Rattle.image.specs.Image.{saving, saved};
 
 use crate::refusal::Refusal;
 use crate::{block, rules};
-use chip::answer::{miscounted, refuse};
+use chip::answer;
+use chip::answer::refuse;
 use chip::system::System;
 use descriptors::descriptor::Descriptor;
 use registers::shared::Shared;
@@ -95,7 +96,7 @@ pub fn save(image: &mut [u8], system: System) -> Result<(), Refusal>
     ensures image_after { image.new ≡ saved image.old system }
 {
     let n = system.shared.board.count;
-    refuse(Refusal::Count, miscounted(n))?;
+    refuse(Refusal::Count, answer::miscounted(n))?;
     refuse(Refusal::Length, image.len() != block::SIZE * n)?;
     refuse(Refusal::Fields, !rules::sound(system))?;
     put_blocks(image, system, n);
