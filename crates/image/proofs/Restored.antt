@@ -23,7 +23,7 @@ pub restored_exactly : (image : List ℕ) → (refusal image ≡ 0) ↔ (restore
 unfolding restored refusals
 restored_exactly image = (
   λ e. rw append-nil at (past (system_of image) [] (checks image) ((none_by_number (checks image)).0 e)),
-  λ e. sym (by_number_is (system_of image) (checks image)) ∙ ap by_number e,
+  λ e. sym (restored_refusal image) ∙ ap by_number e,
 )
 
 pub restored_system : (image : List ℕ) (s : System) → restored image ≡ Ok s → s ≡ system_of image
