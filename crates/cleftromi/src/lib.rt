@@ -50,20 +50,20 @@ fn operation_by(direction: u64, value: u8) -> Operation
     }
 }
 
-// Each field at its place, and no wider than it.
+// Each field at its place, and no wider than it. By hand, and no `From`: the places are those that the C header gives.
 #[tactic(auto, using(registers::proofs::Numbers::flag_small))]
 fn number_of(v: Values, irq: bool) -> u64
     ensures { result ≡ number_of v irq }
 {
-    v.number as u64
-        + ((v.kind % 16) as u64) * 256
-        + (irq as u64) * 4096
-        + (v.win as u64) * 8192
-        + (v.near as u64) * 16384
-        + ((v.unit % 8) as u64) * 65536
-        + ((v.descriptor % 32) as u64) * 524288
-        + (v.byte as u64) * 16777216
-        + ((v.address % 16777216) as u64) * 4294967296
+    u64::from(v.number)
+        + u64::from(v.kind % 16) * 256
+        + u64::from(irq) * 4096
+        + u64::from(v.win) * 8192
+        + u64::from(v.near) * 16384
+        + u64::from(v.unit % 8) * 65536
+        + u64::from(v.descriptor % 32) * 524288
+        + u64::from(v.byte) * 16777216
+        + u64::from(v.address % 16777216) * 4294967296
 }
 
 // Refusal 7.

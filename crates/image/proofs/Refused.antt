@@ -4,12 +4,16 @@
 --     numbered_proper         the table of checks is one
 --     past_row                no row applies
 --     by_number_is, none_by_number       its refusal is the number of what the checks give: 0 where none applies
+--     refusals_are            the table of an image, row by row
 -- Assumes nothing.
-use Rattle.std.proofs.Common.{◌≡◌, ℕ, ◌^◌, ◌<◌, Bool, true, false, cond, ◌≢◌, ◌↔◌, List, [], ◌∷◌, sym, refl, ap, true≢false, arith, lit<, Ok, Err, is_ok}
+use Rattle.std.proofs.Common.{◌≡◌, ℕ, zero, suc, ◌^◌, ◌<◌, Bool, true, false, cond, not, ◌≢◌, ◌↔◌, List, [], ◌∷◌, ◌++◌, length, sym, refl, ap, true≢false, arith, lit<, Ok, Err, is_ok}
 use Rattle.chip.specs.Answer.{decided, passed, first_of}
 use Rattle.image.specs.declared.refusal.Refusal.{Refusal}
 use Rattle.image.specs.declared.refusal.Refusal.TheVariants.{Count, Length, Check, Fields}
 use Rattle.image.specs.Refusals.{number, numbered, by_number}
+use Rattle.image.specs.Image.{blocks, across, misfit, checks_at, checks, refusals}
+use Rattle.pieces.specs.Pieces.{pieces}
+use Rattle.std.proofs.lemmas.List.{map-append}
 
 pub number_told : (r : Refusal) → (number r ≢ 0) × (number r < 2 ^ 8)
 number_told Count = (λ e. omega arith, lit< tt)
@@ -54,3 +58,13 @@ none_by_number (c ∷ cs) = go c.1 (none_by_number cs)
         → (cond b (number c.0) (first_of (numbered cs)) ≡ 0) ↔ (cond b (Err c.0) (passed cs) ≡ Ok tt)
     go true later = (λ e. absurd ((number_told c.0).0 e), λ e. absurd (true≢false (sym (ap is_ok e))))
     go false later = later
+
+numbered_pieces : (n : ℕ) (f : ℕ → List (Refusal × Bool)) → numbered (pieces n f) ≡ pieces n (λ m. numbered (f m))
+unfolding pieces
+numbered_pieces zero f = refl
+numbered_pieces (suc n) f = rw map-append (ap (λ (l : List (ℕ × Bool)). l ++ numbered (f n)) (numbered_pieces n f))
+
+pub refusals_are : (image : List ℕ) → refusals image
+    ≡ (8, misfit (length image)) ∷ pieces (blocks image) (λ m. numbered (checks_at image m)) ++ (10, not (across image)) ∷ []
+unfolding refusals checks
+refusals_are image = rw (map-append, numbered_pieces) refl
