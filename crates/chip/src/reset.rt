@@ -107,7 +107,8 @@ impl System {
             .in_all(Change::Report(unit::NO, unit::NONE))
     }
 
-    // Of a unit that can be there, or of none.
+    // Of a unit that can be there, or of none. A `requires` and no `UnitIndex`: the two calls that come here would each have to open
+    // the `Option` and close it again.
     #[tactic(auto, unfolding(crate::specs::Reset::fresh))]
     pub(crate) fn fresh(board: Board, selected: Option<u64>) -> System
         requires { (m : ℕ) → selected ≡ Some m → m < 6 }

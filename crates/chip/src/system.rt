@@ -7,7 +7,8 @@ use descriptors::descriptor::Descriptor;
 use registers::shared::Shared;
 use registers::unit::{Change, Unit};
 
-// The numbers of what is shared stand between the two arrays, so that a compiler moves each of them as one piece.
+// As many units and descriptors as a board has room for, with their count beside them, and no `Vec`: the project has no heap. The
+// numbers of what is shared stand between the two arrays, so that a compiler moves each of them as one piece.
 #[derive(Clone, Copy)]
 pub struct System {
     pub units: [Unit; 6],

@@ -1,5 +1,6 @@
 #![tactic(auto)]
-// The functions of `cleftromi` under their C names: what a C host links. Each promises what that of `cleftromi` promises.
+// The functions of `cleftromi` under their C names: what a C host links. Each promises what that of `cleftromi` promises, in its words
+// again, since an exported function stands in no trait and takes no type parameter (the C interface).
 ghost use Rattle.std.specs.Prelude.{◌≡◌};
 ghost use Rattle.chip.specs.declared.call.Call.TheVariants.{Start, Reset, Access, Register, Acknowledge};
 ghost use Rattle.cleftromi.specs.Interface.{selected_by, cycle_by, operation_by, answer, after};

@@ -21,7 +21,8 @@ pub const USA: u8 = 0b1010;
 
 pub const WV: u8 = 0b1100;
 
-// 3.2.6, 3.2.7: no valid result, no valid interrupt. A byte and no `Option`: the registers are read as bytes, as `rdp_of` has them.
+// 3.2.6, 3.2.7: no valid result, no valid interrupt. A byte and no `Option`: an image holds any byte as RDP, which is read as it is
+// before the image's rules are asked (`image::block::unit_of`).
 pub const NONE: u8 = 0x80;
 
 const RW: u8 = 1 << 3;
@@ -42,7 +43,8 @@ pub struct Unit {
     pub rw: bool,
 }
 
-// The accumulator bytes that all units must have alike, for one operation or the other (3.2.4).
+// The accumulator bytes that all units must have alike, for one operation or the other (3.2.4). By name, and no list: GAL is tested
+// after GAT, and one list for each costs a load 250 instructions.
 #[derive(Clone, Copy)]
 pub enum Bytes {
     Translation,
