@@ -2,6 +2,7 @@
 --     each_more, each_at, each_past, each_front, length_each, each_related     what is done to each of the first n
 --     filled_is, filled_below, filled_past, length_filled     an array whose first n elements are put in
 --     front_next, front_ended     a loop over the first n
+--     begun, next, ended      a loop that fills an array
 -- Assumes nothing.
 use Prim.Native.Nat.{ℕ, zero, suc, ◌+◌, ◌<◌, ◌≤◌}
 use mathlib.Core.Path.{◌≡◌, refl, sym, ap, ◌∙◌}
@@ -78,8 +79,25 @@ module _ {A : Type 0} (d : A) (n : ℕ) (f : ℕ → A → A) (xs : List A) wher
       let last : i ≡ n = omega (arith, length-take-le n xs h) in
       rw (e, last) (each_front n f xs)
 
--- ---- an array that is filled
+-- ---- an array that is filled, one element after the other
+
 module _ {A : Type 0} where
+  -- so far i of n are put in
+  abbrev pub Filling : (n : ℕ) (g : ℕ → A) (xs ys : List A) (i : ℕ) → Type 0
+  Filling n g xs ys i = (i ≤ n) × (ys ≡ each i (λ k x. g k) xs)
+
+  pub begun : {n : ℕ} (g : ℕ → A) (xs : List A) → Filling n g xs xs 0
+  unfolding each
+  begun g xs = (omega arith, refl)
+
+  pub next : (d : A) (g : ℕ → A) (xs : List A) {n i : ℕ} {ys : List A} {v : A} → Filling n g xs ys i → i < n → v ≡ g i
+      → Filling n g xs (set ys i v) (i + 1)
+  next d g xs {i = i} f l q = (omega arith, rw (f.1, q) (each_more d i (λ k x. g k) xs))
+
+  pub ended : (g : ℕ → A) (xs zs : List A) {n i : ℕ} {ys : List A} → Filling n g xs ys i → n ≤ i → xs ≡ zs
+      → ys ≡ each n (λ k x. g k) zs
+  ended g xs zs {n = n} {i = i} f l e = let all : i ≡ n = omega arith in f.1 ∙ rw (all, e)
+
   -- an array whose first n elements come from g, and the others are z
   pub filled_is : (d : A) (n k : ℕ) (g : ℕ → A) (z : A) (l : List A) → length l ≡ k
       → ((i : ℕ) → i < n → i < k → g i ≡ get_or l i d) → ((i : ℕ) → n ≤ i → i < k → z ≡ get_or l i d)

@@ -1,8 +1,9 @@
 -- The descriptor that is near (document 02, P4).
+--     searched_located     a match that a search tells of is at one of the 192 places
 --     near_small           unit and descriptor that are named are below 8 and 32
 --     near_carried         and they are those of the lowest place whose space alone differs; none are named exactly where there is none
 -- Assumes nothing.
-use Rattle.std.specs.Prelude.{Option, Some, None, option_map}
+use Rattle.std.specs.Prelude.{Option, Some, None, ok_or, option_map, Result, Ok}
 use Prim.Native.Nat.{ℕ, ◌+◌, ◌*◌, ◌/◌, ◌%◌, ◌<◌, ◌^◌}
 use mathlib.Core.Path.{◌≡◌, refl, sym, ◌∙◌}
 use mathlib.Core.Bool.{false, false≢true}
@@ -14,10 +15,23 @@ use Rattle.registers.specs.Unit.{flag}
 use Rattle.chip.specs.System.{present, descriptor}
 use Rattle.chip.specs.Answer.{named_by}
 use Rattle.chip.specs.Reason.{SpaceAloneDiffers, Carried}
-use Rattle.chip.specs.Search.{near_place, place}
+use Rattle.chip.specs.Search.{matching, near_place, searched, place}
 use Rattle.chip.specs.declared.system.System.{System}
 use Rattle.chip.proofs.First.{first_found, first_missed}
+use Rattle.chip.proofs.Once.{matching_found}
 use Rattle.chip.specs.declared.search.Place.{Place}
+
+-- a match that was told is at one of the 192
+abbrev pub Located : Result ℕ (Option Place) → Type 0
+Located x = (i : ℕ) → x ≡ Ok i → i < 192
+
+pub searched_located : (page number : ℕ) (s : System) → Located (searched page number s)
+unfolding searched
+searched_located page number s = go (matching page number s) refl
+  where
+    go : (f : Option ℕ) → matching page number s ≡ f → Located (ok_or f (option_map place (near_place page number s)))
+    go (Some k) e i q = let j : k ≡ i = cc in omega (arith, (matching_found s page number k e).high)
+    go None e i q = absurd (let z : ◌≡◌ {A = ℕ} 0 1 = cc in omega arith)
 
 -- unit and descriptor within their fields
 abbrev pub Small : Option Place → Type 0

@@ -87,7 +87,7 @@ outcomes = record {
   -- chip
   RefusalNumber = λ κs a x y v w p q. (same p q, refl);
   AnswerValues = λ κs a x y v w p q. (same p q, refl);
-  answer_refuse = λ g1 g2 g3 κs a x y v w p q. (same p q, refl);
+  answer_refuse = λ g1 g2 g3 g4 g5 κs a x y v w p q. (same p q, refl);
   answer_miscounted = λ κs a x y v w p q. (same p q, refl);
   SystemGranted = λ κs a x y v w p q. (same p q, refl);
   SystemPerform = λ κs a x y v w p q. (same p q, refl);

@@ -161,7 +161,7 @@ pub record Outcomes : Type 2 where
   -- chip
   pub RefusalNumber : AtMostOne RefusalNumber.Kinds.ps RefusalNumber.Kinds.r RefusalNumber.Reads.Post
   pub AnswerValues : AtMostOne AnswerValues.Kinds.ps AnswerValues.Kinds.r AnswerValues.Reads.Post
-  pub answer_refuse : (g1 g2 g3 : _) → AtMostOne (answer_refuse.Kinds.ps g1 g2 g3) (answer_refuse.Kinds.r g1 g2 g3) (answer_refuse.Reads.Post g1 g2 g3)
+  pub answer_refuse : (g1 g2 g3 g4 g5 : _) → AtMostOne (answer_refuse.Kinds.ps g1 g2 g3) (answer_refuse.Kinds.r g1 g2 g3) (answer_refuse.Reads.Post g1 g2 g3 g4 g5)
   pub answer_miscounted : AtMostOne answer_miscounted.Kinds.ps answer_miscounted.Kinds.r answer_miscounted.Reads.Post
   pub SystemGranted : AtMostOne SystemGranted.Kinds.ps SystemGranted.Kinds.r SystemGranted.Reads.Post
   pub SystemPerform : AtMostOne SystemPerform.Kinds.ps SystemPerform.Kinds.r SystemPerform.Reads.Post

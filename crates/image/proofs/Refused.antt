@@ -1,8 +1,10 @@
 -- A table of checks by the numbers of their refusals: the first that applies, or zero.
 --     number_told             a refusal's number is a byte and not 0, which stands for no refusal
 --     Proper, first_fits      a table of such numbers: so its refusal is a byte
+--     first_past, first_stays     a piece of which no row applies, and one of which some does
 --     numbered_proper         the table of checks is one
 --     past_row                no row applies
+--     none_applies            no row applies
 --     by_number_is, none_by_number       its refusal is the number of what the checks give: 0 where none applies
 --     refusals_are            the table of an image, row by row
 -- Assumes nothing.
@@ -33,6 +35,24 @@ first_fits (row ∷ rows) p = go row.1 (first_fits rows p.2)
     go true later = p.1
     go false later = later
 
+pub first_past : (rows more : List (ℕ × Bool)) → Proper rows → first_of rows ≡ 0 → first_of (rows ++ more) ≡ first_of more
+first_past [] more p e = refl
+first_past (row ∷ rows) more p e = go row.1 (first_past rows more p.2) e
+  where
+    go : (b : Bool) → (first_of rows ≡ 0 → first_of (rows ++ more) ≡ first_of more)
+        → cond b row.0 (first_of rows) ≡ 0 → cond b row.0 (first_of (rows ++ more)) ≡ first_of more
+    go true later q = absurd (p.0 q)
+    go false later q = later q
+
+pub first_stays : (rows more : List (ℕ × Bool)) → first_of rows ≢ 0 → first_of (rows ++ more) ≡ first_of rows
+first_stays [] more n = absurd (n refl)
+first_stays (row ∷ rows) more n = go row.1 (first_stays rows more) n
+  where
+    go : (b : Bool) → (first_of rows ≢ 0 → first_of (rows ++ more) ≡ first_of rows)
+        → cond b row.0 (first_of rows) ≢ 0 → cond b row.0 (first_of (rows ++ more)) ≡ cond b row.0 (first_of rows)
+    go true later q = refl
+    go false later q = later q
+
 pub numbered_proper : (rows : List (Refusal × Bool)) → Proper (numbered rows)
 numbered_proper [] = tt
 numbered_proper (c ∷ cs) = let told = number_told c.0 in (told.0, told.1, numbered_proper cs)
@@ -48,6 +68,15 @@ by_number_is a (c ∷ cs) = go c.1 (by_number_is a cs)
     go : (b : Bool) → by_number (decided cs a) ≡ first_of (numbered cs)
         → by_number (cond b (Err c.0) (decided cs a)) ≡ cond b (number c.0) (first_of (numbered cs))
     go true later = refl
+    go false later = later
+
+pub none_applies : (rows : List (ℕ × Bool)) → Proper rows → (first_of rows ≡ 0) ↔ (passed rows ≡ Ok tt)
+none_applies [] p = (λ e. refl, λ e. refl)
+none_applies (row ∷ rows) p = go row.1 (none_applies rows p.2)
+  where
+    go : (b : Bool) → ((first_of rows ≡ 0) ↔ (passed rows ≡ Ok tt))
+        → (cond b row.0 (first_of rows) ≡ 0) ↔ (cond b (Err row.0) (passed rows) ≡ Ok tt)
+    go true later = (λ e. absurd (p.0 e), λ e. absurd (true≢false (sym (ap is_ok e))))
     go false later = later
 
 pub none_by_number : (rows : List (Refusal × Bool)) → (first_of (numbered rows) ≡ 0) ↔ (passed rows ≡ Ok tt)

@@ -1,13 +1,14 @@
 -- A form, byte after byte. Assumes nothing.
-use Prim.Native.Nat.{ℕ, zero, suc, ◌<◌}
+use Prim.Native.Nat.{ℕ, zero, suc, ◌+◌, ◌<◌}
 use mathlib.Core.Path.{◌≡◌, refl, ap}
 use mathlib.Core.Logic.{◌≢◌}
 use mathlib.Core.Bool.{Bool, true, false, ◌&&◌, and-eq-true_iff, false≢true}
 use mathlib.Core.List.{List, [], ◌∷◌}
 use native.Mathlib.Nat.{le_of_suc-le-suc, not-suc-le-zero}
+use native.Mathlib.Numerals.{add-one}
 use native.Mathlib.Omega.{arith}
 use lib.Dec.{lit<}
-use lib.ListN.{length, get_or}
+use lib.ListN.{length, get_or, drop}
 use Rattle.std.specs.List.{list_all, zip}
 use Rattle.text.proofs.Values.{byte_small}
 use Rattle.lines.specs.Line.{write_form, fits_at, fits, byte_at}
@@ -19,6 +20,26 @@ fits_all [] [] e = refl
 fits_all [] (c ∷ line) e = absurd (omega arith)
 fits_all (f ∷ form) [] e = absurd (omega arith)
 fits_all (f ∷ form) (c ∷ line) e = ap (λ (b : Bool). fits_at f c && b) (fits_all form line (omega arith))
+
+-- byte after byte: what stands from a place on
+next : (form line : List ℕ) (i : ℕ) → i < length form → i < length line
+    → fits (drop i form) (drop i line) ≡ fits_at (get_or form i 0) (get_or line i 0) && fits (drop (suc i) form) (drop (suc i) line)
+unfolding fits
+next [] line i h k = absurd (not-suc-le-zero h)
+next (f ∷ form) [] i h k = absurd (not-suc-le-zero k)
+next (f ∷ form) (c ∷ line) zero h k = refl
+next (f ∷ form) (c ∷ line) (suc i) h k = next form line i (le_of_suc-le-suc h) (le_of_suc-le-suc k)
+
+pub fits_next : (form line : List ℕ) (i : ℕ) → i < length form → i < length line
+    → fits (drop i form) (drop i line) ≡ fits_at (get_or form i 0) (get_or line i 0) && fits (drop (i + 1) form) (drop (i + 1) line)
+fits_next form line i h k = rw add-one (next form line i h k)
+
+pub fits_end : (form line : List ℕ) → length line ≡ length form → fits (drop (length form) form) (drop (length form) line) ≡ true
+unfolding fits
+fits_end [] [] e = refl
+fits_end [] (c ∷ line) e = absurd (omega arith)
+fits_end (f ∷ form) [] e = absurd (omega arith)
+fits_end (f ∷ form) (c ∷ line) e = fits_end form line (omega arith)
 
 pub fits_length : (form line : List ℕ) → length line ≢ length form → fits form line ≡ false
 unfolding fits
