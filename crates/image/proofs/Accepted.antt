@@ -16,11 +16,11 @@ use Rattle.chip.proofs.Counts.{well_counted}
 use Rattle.image.specs.Block.{size, count, adds_up}
 use Rattle.image.specs.Rules.{own, counted, same_shared, sound}
 use Rattle.image.specs.Refusals.{number, numbered, by_number}
-use Rattle.image.specs.Image.{blocks, from_block, system_of, across, could_satisfy_01, misfit, checks_at, checks, refusals, refusal}
+use Rattle.image.specs.Image.{blocks, from_block, system_of, across, could_satisfy_01, misfit, checks_at, checks, refusals_at, refusals, refusal}
 use Rattle.image.specs.declared.refusal.Refusal.{Refusal}
 use Rattle.image.specs.declared.refusal.Refusal.TheVariants.{Length, Check, Fields}
-use Rattle.image.proofs.Checked.{past, stays, past_check, none_of_both, none_of_pieces}
-use Rattle.image.proofs.Refused.{first_fits, numbered_proper, by_number_is, none_by_number}
+use Rattle.image.proofs.Checked.{past_check, none_of_both, none_of_pieces}
+use Rattle.image.proofs.Refused.{first_fits, first_past, first_stays, numbered_proper, none_by_number, proper_blocks, refusals_are}
 
 either : (a b : Bool) → a || b ≡ false → (a ≡ false) × (b ≡ false)
 either true b e = absurd (true≢false e)
@@ -45,25 +45,18 @@ module _ (image : List ℕ) where
   unfolding refusals
   refusal_fits = first_fits (refusals image) (numbered_proper (checks image))
 
-  -- it is that of another table which gives the same
-  refusal_by : (rows : List (Refusal × Bool)) → passed (checks image) ≡ passed rows → refusal image ≡ first_of (numbered rows)
-  unfolding refusals
-  refusal_by rows e = sym (by_number_is tt (checks image)) ∙ ap by_number e ∙ by_number_is tt rows
-
   pub refusal_length : misfit (length image) ≡ true → refusal image ≡ 8
-  unfolding refusals checks
-  refusal_length e = rw e refl
+  refusal_length e = rw (refusals_are image, e) refl
 
-  pub refusal_block : (r : Refusal) → misfit (length image) ≡ false → passed (pieces (blocks image) (checks_at image)) ≡ Err r
-      → refusal image ≡ number r
-  unfolding checks
-  refusal_block r e h = refusal_by ((r, true) ∷ []) (rw e (stays {A = ⊤} tt _ (pieces (blocks image) (checks_at image)) r h))
+  pub refusal_block : misfit (length image) ≡ false → first_of (pieces (blocks image) (refusals_at image)) ≢ 0
+      → refusal image ≡ first_of (pieces (blocks image) (refusals_at image))
+  refusal_block e n = rw (refusals_are image, e) (first_stays (pieces (blocks image) (refusals_at image)) _ n)
 
-  pub refusal_across : misfit (length image) ≡ false → passed (pieces (blocks image) (checks_at image)) ≡ Ok tt
+  pub refusal_across : misfit (length image) ≡ false → first_of (pieces (blocks image) (refusals_at image)) ≡ 0
       → refusal image ≡ cond (not (across image)) 10 0
-  unfolding checks
-  refusal_across e h =
-      refusal_by ((Fields, not (across image)) ∷ []) (rw e (past {A = ⊤} tt _ (pieces (blocks image) (checks_at image)) h))
+  refusal_across e z =
+      rw (refusals_are image, e)
+      (first_past (pieces (blocks image) (refusals_at image)) ((10, not (across image)) ∷ []) (proper_blocks image) z)
 
 -- ---- acceptance
 module _ (image : List ℕ) where

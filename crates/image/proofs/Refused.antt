@@ -6,14 +6,15 @@
 --     past_row                no row applies
 --     none_applies            no row applies
 --     by_number_is, none_by_number       its refusal is the number of what the checks give: 0 where none applies
---     refusals_are            the table of an image, row by row
+--     proper_blocks, none_in_blocks      the same of the blocks of an image
+--     refusals_are            and its table, row by row
 -- Assumes nothing.
 use Rattle.std.proofs.Common.{◌≡◌, ℕ, zero, suc, ◌^◌, ◌<◌, Bool, true, false, cond, not, ◌≢◌, ◌↔◌, List, [], ◌∷◌, ◌++◌, length, sym, refl, ap, true≢false, arith, lit<, Ok, Err, is_ok}
 use Rattle.chip.specs.Answer.{decided, passed, first_of}
 use Rattle.image.specs.declared.refusal.Refusal.{Refusal}
 use Rattle.image.specs.declared.refusal.Refusal.TheVariants.{Count, Length, Check, Fields}
 use Rattle.image.specs.Refusals.{number, numbered, by_number}
-use Rattle.image.specs.Image.{blocks, across, misfit, checks_at, checks, refusals}
+use Rattle.image.specs.Image.{blocks, across, misfit, checks_at, checks, refusals_at, refusals}
 use Rattle.pieces.specs.Pieces.{pieces}
 use Rattle.std.proofs.lemmas.List.{map-append}
 
@@ -88,12 +89,21 @@ none_by_number (c ∷ cs) = go c.1 (none_by_number cs)
     go true later = (λ e. absurd ((number_told c.0).0 e), λ e. absurd (true≢false (sym (ap is_ok e))))
     go false later = later
 
+-- ---- the checks of the blocks, by number
 numbered_pieces : (n : ℕ) (f : ℕ → List (Refusal × Bool)) → numbered (pieces n f) ≡ pieces n (λ m. numbered (f m))
 unfolding pieces
 numbered_pieces zero f = refl
 numbered_pieces (suc n) f = rw map-append (ap (λ (l : List (ℕ × Bool)). l ++ numbered (f n)) (numbered_pieces n f))
 
+pub proper_blocks : (image : List ℕ) → Proper (pieces (blocks image) (refusals_at image))
+proper_blocks image = rw (← numbered_pieces (blocks image) (checks_at image)) (numbered_proper (pieces (blocks image) (checks_at image)))
+
+pub none_in_blocks : (image : List ℕ) → passed (pieces (blocks image) (checks_at image)) ≡ Ok tt
+    → first_of (pieces (blocks image) (refusals_at image)) ≡ 0
+none_in_blocks image e =
+    rw (← numbered_pieces (blocks image) (checks_at image)) ((none_by_number (pieces (blocks image) (checks_at image))).1 e)
+
 pub refusals_are : (image : List ℕ) → refusals image
-    ≡ (8, misfit (length image)) ∷ pieces (blocks image) (λ m. numbered (checks_at image m)) ++ (10, not (across image)) ∷ []
+    ≡ (8, misfit (length image)) ∷ pieces (blocks image) (refusals_at image) ++ (10, not (across image)) ∷ []
 unfolding refusals checks
 refusals_are image = rw (map-append, numbered_pieces) refl

@@ -35,6 +35,7 @@ use Rattle.image.specs.Image.{form, blocks, from_block, system_of, across, misfi
 use Rattle.image.proofs.Words.{words_front, length_fields, length_block}
 use Rattle.image.proofs.Checked.{none_of_pieces}
 use Rattle.image.proofs.Accepted.{refusal_across}
+use Rattle.image.proofs.Refused.{none_in_blocks}
 
 pub length_form : (s : System) → length s.shared.table ≡ 16 → length (form s) ≡ 512 * present s
 unfolding form
@@ -257,5 +258,5 @@ module _ (s : System) (c : Clean s) (some : 1 ≤ s.shared.board.count) (few : s
 
   pub form_refusal : refusal (form s) ≡ cond (not (sound s)) 10 0
   form_refusal =
-      refusal_across (form s) fits (rw blocks_form ((none_of_pieces (checks_at (form s)) (present s)).1 block_passes))
+      refusal_across (form s) fits (none_in_blocks (form s) (rw blocks_form ((none_of_pieces (checks_at (form s)) (present s)).1 block_passes)))
       ∙ ap (λ (b : Bool). cond (not b) 10 0) across_form

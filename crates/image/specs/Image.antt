@@ -69,6 +69,9 @@ unfoldable pub checks : (image : List ℕ) → List (Refusal × Bool)
 checks i = (Length, misfit (length i)) ∷ pieces (blocks i) (checks_at i) ++ (Fields, not (across i)) ∷ []
 
 -- by number; an image is accepted where none of these applies
+abbrev pub refusals_at : (image : List ℕ) (m : ℕ) → List (ℕ × Bool)
+refusals_at i m = numbered (checks_at i m)
+
 unfoldable pub refusals : (image : List ℕ) → List (ℕ × Bool)
 refusals i = numbered (checks i)
 
