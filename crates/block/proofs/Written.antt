@@ -1,7 +1,7 @@
 -- What is written of the first n of a list.
 --     of_first       the pieces of the first n elements
 -- Assumes nothing.
-use Rattle.std.proofs.Common.{◌≡◌, ℕ, zero, suc, ◌<◌, ◌≤◌, List, ◌++◌, length, get_or, take, refl, ap₂, arith, length-take}
+use Rattle.std.proofs.Common.{◌≡◌, ℕ, ◌≤◌, List, length, get_or, take, refl, arith, length-take}
 use Rattle.std.proofs.lemmas.List.{get_or-take}
 use Rattle.pieces.specs.Pieces.{pieces}
 use Rattle.pieces.proofs.Parts.{pieces_alike}

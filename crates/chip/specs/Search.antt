@@ -1,6 +1,6 @@
 -- The priority encoder: handbook 3.2.6 and 3.2.7. Descriptor 0 has the highest priority; of several
 -- units the lowest (document 01, "A bus access").
-use Rattle.std.specs.Prelude.{ℕ, suc, zero, ◌*◌, ◌/◌, ◌%◌, ◌<◌, Bool, ◌&&◌, cond, ◌≡◌, Option, Some, None, is_some, ok_or, option_map, Result, Ok, Err}
+use Rattle.std.specs.Prelude.{ℕ, suc, zero, ◌*◌, ◌/◌, ◌%◌, Bool, ◌&&◌, cond, Option, Some, None, is_some, ok_or, option_map, Result, Ok, Err}
 use Rattle.descriptors.specs.Descriptor.{matches, match_answer, space_alone, pending}
 use Rattle.registers.specs.Unit.{none}
 use Rattle.chip.specs.System.{present, descriptor}

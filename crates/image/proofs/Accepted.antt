@@ -4,18 +4,16 @@
 --     accepted_exactly      there is none exactly when the length fits, each block adds up, and the image could satisfy 01
 --     accepted         what that says of each block, and of the system
 -- Assumes nothing.
-use Rattle.std.proofs.Common.{◌≡◌, ℕ, ◌*◌, ◌/◌, ◌%◌, ◌^◌, ◌<◌, ◌≤◌, Bool, true, false, cond, not, ◌&&◌, ◌||◌, eqb, ltb, ◌≢◌, ◌↔◌, List, [], ◌∷◌, ◌++◌, length, sym, refl, ap, ◌∙◌, true≢false, arith, eqb-true, Ok, Err}
+use Rattle.std.proofs.Common.{◌≡◌, ℕ, ◌*◌, ◌/◌, ◌%◌, ◌^◌, ◌<◌, ◌≤◌, Bool, true, false, cond, not, ◌&&◌, ◌||◌, eqb, ltb, ◌≢◌, ◌↔◌, List, [], ◌∷◌, ◌++◌, length, refl, ap, true≢false, arith, eqb-true, Ok, Err}
 use mathlib.Core.Bool.{and-eq-true_iff}
 use borrow.Author.Tests.{eqb-false, not-false}
 use Rattle.masks.specs.Fields.{every}
 use Rattle.masks.proofs.Bits.{every_at}
 use Rattle.pieces.specs.Pieces.{pieces}
-use Rattle.std.specs.Prelude.{⊤}
 use Rattle.chip.specs.Answer.{passed, first_of, miscounted}
 use Rattle.chip.proofs.Counts.{well_counted}
 use Rattle.image.specs.Block.{size, count, adds_up}
 use Rattle.image.specs.Rules.{own, counted, same_shared, sound}
-use Rattle.image.specs.Refusals.{number, numbered, by_number}
 use Rattle.image.specs.Image.{blocks, from_block, system_of, across, could_satisfy_01, misfit, checks_at, checks, refusals_at, refusals, refusal}
 use Rattle.image.specs.declared.refusal.Refusal.{Refusal}
 use Rattle.image.specs.declared.refusal.Refusal.TheVariants.{Length, Check, Fields}
