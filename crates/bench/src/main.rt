@@ -43,7 +43,7 @@ fn main(rt: HostRuntime) {
         line: Text::new(),
     };
     // A proved loop has to end, and nothing says that the input does. So it counts its turns down, from a number that no run
-    // uses up: by hand, as the mistake `turns_not_counted` is refused at that count.
+    // uses up: by hand, as the mistake `turns_not_counted` is refused at that count (its place is `loop-turns-smaller`).
     let mut turns = u64::MAX;
     while turns > 0 {
         match input.read(&mut buffer) {

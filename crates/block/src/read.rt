@@ -1,5 +1,5 @@
 // Reading a lent block: any bytes are some system.
-ghost use Rattle.std.specs.Prelude.{◌≡◌, ◌+◌, ◌*◌, ◌≤◌, ◌<◌, min, length, drop};
+ghost use Rattle.std.specs.Prelude.{◌≡◌, ◌+◌, ◌*◌, ◌≤◌, ◌<◌, length, drop};
 ghost use Rattle.chip.specs.System.{each};
 ghost use Rattle.chip.specs.Reset.{nothing};
 ghost use Rattle.block.specs.Layout.{unit_place, descriptor_place, unit_of, descriptor_of, shared_of, read};
@@ -13,13 +13,6 @@ use registers::unit::Unit;
 
 // What a host lends.
 pub const SIZE: usize = 4096;
-
-// How many units a count stands for. One above six is refused before it matters.
-pub(crate) fn present(count: usize) -> usize
-    ensures { result ≡ min count 6 }
-{
-    count.min(6)
-}
 
 fn unit_of(b: &[u8]) -> Unit
     requires { 16 ≤ length b.now }
@@ -36,7 +29,8 @@ fn unit_of(b: &[u8]) -> Unit
     }
 }
 
-// The first n units, and no others. A loop, as is the next: `array::from_fn` doubles what a bus access costs.
+// The first n units, and no others. A loop, as is the next, and no function over both that is told what to read, as `array::from_fn` is: with
+// that a bus access cost 11,042 instructions, and 5,296 with the loops.
 fn units_of(b: &[u8], n: usize) -> [Unit; 6]
     requires { (n ≤ 6) × (128 ≤ length b.now) }
     ensures { result ≡ each n (λ m u. unit_of (drop (unit_place m) b.now)) nothing.units }
@@ -97,7 +91,8 @@ pub fn read(b: &[u8]) -> System
         return System::nothing();
     }
     let shared = shared_of(b);
-    let n = present(shared.board.count);
+    // A count above six is refused before it matters.
+    let n = shared.board.count.min(6);
     System {
         units: units_of(b, n),
         shared,

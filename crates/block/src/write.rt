@@ -40,10 +40,8 @@ fn put_unit(b: &mut [u8], u: Unit)
     requires { 16 ≤ length b.old }
     ensures { b.new ≡ unit_bytes u ++ drop 16 b.old }
 {
-    let values = u.values();
-    b[..9].copy_from_slice(&values);
-    let marks = u.marks().to_le_bytes();
-    b[9..11].copy_from_slice(&marks);
+    b[..9].copy_from_slice(&u.values());
+    b[9..11].copy_from_slice(&u.marks().to_le_bytes());
     b[11] = u.dp;
     b[12] = u.held_lsr();
     b[13] = u.rdp;
@@ -70,8 +68,7 @@ fn put_shared(b: &mut [u8], shared: Shared)
     b[0] = (shared.board.count % 256) as u8;
     b[1] = u8::from(shared.gsr);
     b[2] = shared.ivr;
-    let table = shared.table;
-    b[16..32].copy_from_slice(&table);
+    b[16..32].copy_from_slice(&shared.table);
 }
 
 pub fn write(b: &mut [u8], system: System)
@@ -81,7 +78,7 @@ pub fn write(b: &mut [u8], system: System)
         return;
     }
     let shared = system.shared;
-    let n = read::present(shared.board.count);
+    let n = system.present();
     put_descriptors(&mut b[128..], &system.descriptors[..32 * n]);
     let past_descriptors = 128 + 288 * n;
     pieces::put_zeros(&mut b[past_descriptors..], 3968 - 288 * n);

@@ -44,6 +44,8 @@ impl Cycle {
     }
 }
 
+// By arithmetic, as the definition has it: by bytes the page would be taken apart and put together again. So it is where an address is
+// taken apart (`translate`).
 fn physical(page: u16, offset: u8) -> u32
     ensures { result ≡ 256 * page + offset }
 {

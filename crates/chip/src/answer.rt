@@ -78,6 +78,7 @@ pub struct Reading {
 }
 
 impl Refusal {
+    // By name, and no `From`: the claims and docs/PROMISES.md go by `number`.
     pub fn number(self) -> u8
         ensures { result ≡ number self }
     {

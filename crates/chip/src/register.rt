@@ -111,11 +111,11 @@ impl System {
             Register::Gsr => self.write_gsr(value),
             Register::Lsr => self.in_all(Change::Lsr(value)),
             Register::Ssr => self.write_status(m, value),
-            Register::Idp => self,
-            Register::Rdp => self,
-            Register::DirectTranslation => self,
-            Register::LoadDescriptor => self,
-            Register::Null => self,
+            Register::Idp
+            | Register::Rdp
+            | Register::DirectTranslation
+            | Register::LoadDescriptor
+            | Register::Null => self,
         }
     }
 

@@ -65,6 +65,7 @@ impl System {
         self
     }
 
+    // A store and no struct update, as of the two above: the arrays stay where they are.
     #[tactic(auto, unfolding(crate::specs::System::with_shared))]
     pub(crate) fn with_shared(mut self, shared: Shared) -> System
         ensures { result ≡ with_shared self shared }
@@ -83,7 +84,7 @@ impl System {
         }
     }
 
-    // 4.6.3: in all units at once.
+    // 4.6.3: in all units at once. The units go through an array of their own: of a part of a field that is lent, a proof keeps no value.
     pub(crate) fn in_all(mut self, change: Change) -> System
         ensures { result ≡ in_all (changed change) self }
     {

@@ -59,11 +59,10 @@ impl Descriptor {
         self.ssr & status::IP != 0
     }
 
-    pub fn with_ssr(mut self, ssr: u8) -> Descriptor
+    pub fn with_ssr(self, ssr: u8) -> Descriptor
         ensures { result ≡ with_ssr self ssr }
     {
-        self.ssr = ssr;
-        self
+        Descriptor { ssr, ..self }
     }
 
     // 4.5.3.1.
@@ -109,7 +108,7 @@ impl Descriptor {
         masks::gate(self.lam, page, self.pba)
     }
 
-    // Table 3-1. A method, as `to_be_bytes` is one: its name says what the array holds.
+    // Table 3-1. A method and no `From`, as `to_be_bytes` is one: its name says what the array holds.
     pub fn bytes(self) -> [u8; 9]
         ensures { result ≡ bytes self }
     {

@@ -6,10 +6,11 @@
 --     past_row                no row applies
 --     none_applies            no row applies
 --     by_number_is, none_by_number       its refusal is the number of what the checks give: 0 where none applies
+--     none_of_pieces, stopped      a table that is made of pieces
 --     proper_blocks, none_in_blocks      the same of the blocks of an image
 --     refusals_are            and its table, row by row
 -- Assumes nothing.
-use Rattle.std.proofs.Common.{◌≡◌, ℕ, zero, suc, ◌^◌, ◌<◌, Bool, true, false, cond, not, ◌≢◌, ◌↔◌, List, [], ◌∷◌, ◌++◌, length, sym, refl, ap, true≢false, arith, lit<, Ok, Err, is_ok}
+use Rattle.std.proofs.Common.{◌≡◌, ℕ, zero, suc, ◌+◌, ◌^◌, ◌<◌, Bool, true, false, cond, not, ◌≢◌, ◌↔◌, List, [], ◌∷◌, ◌++◌, length, sym, refl, ap, ◌∙◌, true≢false, arith, lit<, Ok, Err, is_ok}
 use Rattle.chip.specs.Answer.{decided, passed, first_of}
 use Rattle.image.specs.declared.refusal.Refusal.{Refusal}
 use Rattle.image.specs.declared.refusal.Refusal.TheVariants.{Count, Length, Check, Fields}
@@ -17,6 +18,8 @@ use Rattle.image.specs.Refusals.{number, numbered, by_number}
 use Rattle.image.specs.Image.{blocks, across, misfit, checks_at, checks, refusals_at, refusals}
 use Rattle.pieces.specs.Pieces.{pieces}
 use Rattle.std.proofs.lemmas.List.{map-append}
+use Rattle.image.proofs.Checked.{pieces_split}
+use Rattle.image.proofs.Checked as any
 
 pub number_told : (r : Refusal) → (number r ≢ 0) × (number r < 2 ^ 8)
 number_told Count = (λ e. omega arith, lit< tt)
@@ -89,6 +92,31 @@ none_by_number (c ∷ cs) = go c.1 (none_by_number cs)
     go true later = (λ e. absurd ((number_told c.0).0 e), λ e. absurd (true≢false (sym (ap is_ok e))))
     go false later = later
 
+-- ---- a table of numbers that is made of pieces
+proper_append : (rows more : List (ℕ × Bool)) → Proper rows → Proper more → Proper (rows ++ more)
+proper_append [] more p q = q
+proper_append (row ∷ rows) more p q = (p.0, p.1, proper_append rows more p.2 q)
+
+proper_pieces : (n : ℕ) (f : ℕ → List (ℕ × Bool)) → ((m : ℕ) → Proper (f m)) → Proper (pieces n f)
+unfolding pieces
+proper_pieces zero f h = tt
+proper_pieces (suc n) f h = proper_append (pieces n f) (f n) (proper_pieces n f h) (h n)
+
+pub none_of_pieces : (f : ℕ → List (ℕ × Bool)) → ((m : ℕ) → Proper (f m)) → (n : ℕ)
+    → (first_of (pieces n f) ≡ 0) ↔ ((m : ℕ) → m < n → first_of (f m) ≡ 0)
+none_of_pieces f p n =
+    let whole = none_applies (pieces n f) (proper_pieces n f p) in
+    let each = any.none_of_pieces f n in (
+      λ e m h. (none_applies (f m) (p m)).1 (each.0 (whole.0 e) m h),
+      λ h. whole.1 (each.1 (λ m l. (none_applies (f m) (p m)).0 (h m l))),
+    )
+
+pub stopped : (f : ℕ → List (ℕ × Bool)) → ((m : ℕ) → Proper (f m)) → (n m : ℕ) → m < n → first_of (pieces m f) ≡ 0 → first_of (f m) ≢ 0
+    → first_of (f m) ≡ first_of (pieces n f)
+stopped f p n m l e h =
+    let split = pieces_split f n m l in
+    sym (rw split.1 (first_past (pieces m f) (f m ++ split.0) (proper_pieces m f p) e ∙ first_stays (f m) split.0 h))
+
 -- ---- the checks of the blocks, by number
 numbered_pieces : (n : ℕ) (f : ℕ → List (Refusal × Bool)) → numbered (pieces n f) ≡ pieces n (λ m. numbered (f m))
 unfolding pieces
@@ -96,7 +124,7 @@ numbered_pieces zero f = refl
 numbered_pieces (suc n) f = rw map-append (ap (λ (l : List (ℕ × Bool)). l ++ numbered (f n)) (numbered_pieces n f))
 
 pub proper_blocks : (image : List ℕ) → Proper (pieces (blocks image) (refusals_at image))
-proper_blocks image = rw (← numbered_pieces (blocks image) (checks_at image)) (numbered_proper (pieces (blocks image) (checks_at image)))
+proper_blocks image = proper_pieces (blocks image) (refusals_at image) (λ m. numbered_proper (checks_at image m))
 
 pub none_in_blocks : (image : List ℕ) → passed (pieces (blocks image) (checks_at image)) ≡ Ok tt
     → first_of (pieces (blocks image) (refusals_at image)) ≡ 0

@@ -14,7 +14,8 @@ pub(crate) const SIZE: usize = 512;
 
 pub(crate) type Block = [u8; SIZE];
 
-// The first n words, added up; carries beyond 16 bits are dropped.
+// The first n words, added up; carries beyond 16 bits are dropped. How many, and no part of the block: a part of an odd length would end in
+// half a word.
 pub(crate) fn sum(b: &[u8], n: usize) -> u16
     requires { (n ≤ 256) × (2 * n ≤ length b.now) }
     ensures { result ≡ words n b.now % 2 ^ 16 }

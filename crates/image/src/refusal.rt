@@ -2,7 +2,7 @@
 ghost use Rattle.std.specs.Prelude.{◌≡◌};
 ghost use Rattle.image.specs.Refusals.{number};
 
-#[derive(Clone, Copy, PartialEq, Eq)]
+#[derive(Clone, Copy)]
 pub enum Refusal {
     // A state with no unit, or with more than six.
     Count = 1,
@@ -15,6 +15,7 @@ pub enum Refusal {
 }
 
 impl Refusal {
+    // By name, and no `From`, as chip's.
     pub fn number(self) -> u8
         ensures { result ≡ number self }
     {

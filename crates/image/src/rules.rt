@@ -9,7 +9,7 @@ use chip::system::System;
 use descriptors::descriptor::Descriptor;
 use registers::unit::Unit;
 
-fn same_table<'a>(a: &'a Block, b: &'a Block) -> bool
+fn same_table(a: &Block, b: &Block) -> bool
     ensures { result ≡ every 16 (λ i. nat_eq (slice_index a.now (2 + i)) (slice_index b.now (2 + i))) }
 {
     a[2..18] == b[2..18]
@@ -17,7 +17,7 @@ fn same_table<'a>(a: &'a Block, b: &'a Block) -> bool
 
 // Equal table, GSR and IVR.
 #[tactic(auto, unfolding(crate::specs::Rules::same_shared))]
-pub(crate) fn same_shared<'a>(a: &'a Block, b: &'a Block) -> bool
+pub(crate) fn same_shared(a: &Block, b: &Block) -> bool
     ensures { result ≡ same_shared a.now b.now }
 {
     same_table(a, b) & (a[31] == b[31]) & (a[30] == b[30])

@@ -24,8 +24,7 @@ fn put_head(b: &mut [u8], m: usize, shared: Shared)
 {
     b[0] = m as u8;
     b[1] = (shared.board.count % 256) as u8;
-    let table = shared.table;
-    b[2..18].copy_from_slice(&table);
+    b[2..18].copy_from_slice(&shared.table);
 }
 
 // Bytes 18 to 33: the accumulator, its marks, and the other registers.
@@ -33,10 +32,8 @@ fn put_unit(b: &mut [u8], u: Unit, shared: Shared)
     requires { 16 ≤ length b.old }
     ensures { b.new ≡ (list_of 9 (ac u) ++ high_first (marks u) ++ u.dp ∷ shared.ivr ∷ gsr_byte shared.gsr ∷ held_lsr u ∷ u.rdp ∷ []) ++ drop 16 b.old }
 {
-    let values = u.values();
-    b[..9].copy_from_slice(&values);
-    let marks = u.marks().to_be_bytes();
-    b[9..11].copy_from_slice(&marks);
+    b[..9].copy_from_slice(&u.values());
+    b[9..11].copy_from_slice(&u.marks().to_be_bytes());
     b[11] = u.dp;
     b[12] = shared.ivr;
     b[13] = u8::from(shared.gsr);

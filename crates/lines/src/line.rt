@@ -37,6 +37,7 @@ fn byte_at(line: &[u8], i: usize) -> u16
     digits::byte_of(line[i], line[i + 1])
 }
 
+// By arithmetic, and no `from_be_bytes`: where a digit is none, a part may be above a byte.
 fn address_at(line: &[u8], i: usize) -> u64
     requires { i + 5 < length line.now }
     ensures { result ≡ address_at line.now i }

@@ -3,7 +3,8 @@
 ghost use Rattle.std.specs.Prelude.{◌≡◌, min, length};
 ghost use Rattle.pieces.specs.Pieces.{join, zeroed};
 
-// The order of the two in memory is the caller's. The library's function, promised in the words of the definitions.
+// The order of the two in memory is the caller's. Beside the library's function, since the definitions and the promises that docs/PROMISES.md
+// names go by `join`.
 pub fn join(high: u8, low: u8) -> u16
     ensures { result ≡ join high low }
 {
@@ -17,6 +18,7 @@ pub fn within(wanted: usize, bytes: &[u8]) -> usize
     wanted.min(bytes.len())
 }
 
+// A number beside the slice, since it may be more than the slice has: the promise is for any two.
 pub fn put_zeros(b: &mut [u8], n: usize)
     ensures { b.new ≡ zeroed n b.old }
 {

@@ -82,6 +82,7 @@ impl Shared {
         self
     }
 
+    // One setter for each, as of a unit: a field is nothing that a parameter can name.
     pub fn with_gsr(self, gsr: Gsr) -> Shared
         ensures { result ≡ with_gsr self gsr }
     {

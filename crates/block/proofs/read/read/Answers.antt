@@ -15,7 +15,7 @@ returns c =
       le-ltb _ _ c.if-b-lt-SIZE.false,
       c.descriptors_of.ensures,
       c.units_of.ensures,
-      c.present-n.ensures,
+      c.min-n.ensures,
       c.shared_of-shared.ensures,
     )
 

@@ -15,9 +15,9 @@ returns c =
     let bytes : List ℕ = list_of 9 (ac u) in
     let copied : List ℕ = c.copy_from_slice.new.self ++ drop 9 e in
     let front : copied ≡ bytes ++ drop 9 e =
-    ap (λ (p : List ℕ). p ++ drop 9 e) (c.copy_from_slice.ensures.after ∙ c.values-values.ensures) in
-    let word : c.to_le_bytes-marks.result ≡ low_first (marks u) =
-    c.to_le_bytes-marks.ensures ∙ rw c.marks.ensures (word_bytes (marks u) (omega arith)).1 in
+    ap (λ (p : List ℕ). p ++ drop 9 e) (c.copy_from_slice.ensures.after ∙ c.values.ensures) in
+    let word : c.to_le_bytes.result ≡ low_first (marks u) =
+    c.to_le_bytes.ensures ∙ rw c.marks.ensures (word_bytes (marks u) (omega arith)).1 in
     let marked = replaced bytes (low_first (marks u)) e copied c.copy_from_slice-2.new.self 9 2 11 (refl, front) refl refl
     (c.copy_from_slice-2.ensures.after ∙ word) in
     let registers : List ℕ = u.dp ∷ held_lsr u ∷ u.rdp ∷ 0 ∷ 0 ∷ [] in
