@@ -59,10 +59,12 @@ impl Descriptor {
         self.ssr & status::IP != 0
     }
 
-    pub fn with_ssr(self, ssr: u8) -> Descriptor
+    // A store, and no struct update: with that a load costs 363 instructions more.
+    pub fn with_ssr(mut self, ssr: u8) -> Descriptor
         ensures { result ≡ with_ssr self ssr }
     {
-        Descriptor { ssr, ..self }
+        self.ssr = ssr;
+        self
     }
 
     // 4.5.3.1.
