@@ -72,8 +72,7 @@ function generics(head,   bound) {
     }
     bound = substr(head, RSTART, RLENGTH)
     gsub(/.*: |>/, "", bound)
-    if (bound == "Copy") return 5
-    if (!((crate, bound) in above)) fault("its bound, " bound ", is no trait of its crate")
+    if (bound != "Copy" && !((crate, bound) in above)) fault("its bound, " bound ", is no trait of its crate")
     return 3 + 2 * (1 + above[crate, bound])
 }
 

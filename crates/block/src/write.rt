@@ -24,8 +24,8 @@ fn put_descriptor(b: &mut [u8], d: Descriptor)
     b[8] = d.asm;
 }
 
-// Each is written to the part from its place on: of a slice that `chunks_exact_mut` lent, a proof keeps the length alone. It and
-// `put_units` are a line each beyond their heads: what one function over both would take is as long.
+// Each is written to the part from its place on: of a slice that `chunks_exact_mut` lent, a proof keeps the length alone. Of the two
+// loops, this and that of `put_units`, a line each differs: a function over both, told what to write, would be as long as either.
 fn put_descriptors(b: &mut [u8], descriptors: &[Descriptor])
     requires { 9 * length descriptors.now ≤ length b.old }
     ensures { b.new ≡ pieces (length descriptors.now) (λ i. descriptor_bytes (slice_index_or descriptors.now i zeros)) ++ drop (9 * length descriptors.now) b.old }

@@ -85,7 +85,7 @@ abbrev pub checked : List (Refusal × Bool) → System → Outcome → Outcome
 checked [] s o = o
 checked (c ∷ cs) s o = cond c.1 (refused c.0 s) (checked cs s o)
 
--- the same for any refusals: a is the result where none applies; and whether one does
+-- a table of checks over any refusals: the refusal of the first that applies, or a where none does; and whether all are passed
 abbrev pub decided : {R A : Type 0} → List (R × Bool) → A → Result A R
 decided [] a = Ok a
 decided (c ∷ cs) a = cond c.1 (Err c.0) (decided cs a)

@@ -42,7 +42,7 @@ place i = record { unit = i / 32; descriptor = i % 32 }
 unfoldable pub searched : (page number : ℕ) → System → Result ℕ (Option Place)
 searched page number s = ok_or (matching page number s) (option_map place (near_place page number s))
 
--- the same by the place itself, one of the 192
+-- a search hands out the place itself, one of the 192 by its type: what it tells is where that is, by number
 abbrev pub located : Result PlaceIndex (Option Place) → Result ℕ (Option Place)
 located (Ok i) = Ok i.value
 located (Err near) = Err near
