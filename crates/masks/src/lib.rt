@@ -37,6 +37,7 @@ impl Field for u16 {
 }
 
 // Whether a and b agree wherever the mask has a one.
+#[tactic(auto, using(crate::proofs::Laws::agree_test))]
 pub fn agree<F: Field>(mask: F, a: F, b: F) -> bool
     ensures { result ≡ agree F.width (F.number mask) (F.number a) (F.number b) }
 {
@@ -44,6 +45,7 @@ pub fn agree<F: Field>(mask: F, a: F, b: F) -> bool
 }
 
 // Whether some value agrees both with a, under the mask m, and with b, under the mask n.
+#[tactic(auto, using(crate::proofs::Laws::clash_test))]
 pub fn clash<F: Field>(m: F, a: F, n: F, b: F) -> bool
     ensures { result ≡ clash F.width (F.number m) (F.number a) (F.number n) (F.number b) }
 {
