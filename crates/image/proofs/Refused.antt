@@ -6,11 +6,13 @@
 --     past_row                no row applies
 --     none_applies            no row applies
 --     by_number_is, none_by_number       its refusal is the number of what the checks give: 0 where none applies
---     none_of_pieces, stopped      a table that is made of pieces
+--     none_of_both            no row of two tables applies
+--     proper_append, proper_pieces, one_more, none_of_pieces, stopped      a table that is made of pieces
 --     proper_blocks, none_in_blocks      the same of the blocks of an image
 --     refusals_are            and its table, row by row
 -- Assumes nothing.
-use Rattle.std.proofs.Common.{◌≡◌, ℕ, zero, suc, ◌+◌, ◌^◌, ◌<◌, Bool, true, false, cond, not, ◌≢◌, ◌↔◌, List, [], ◌∷◌, ◌++◌, length, sym, refl, ap, ◌∙◌, true≢false, arith, lit<, Ok, Err, is_ok}
+use Rattle.std.proofs.Common.{◌≡◌, ℕ, zero, suc, ◌+◌, ◌^◌, ◌<◌, Bool, true, false, cond, not, eqb, ◌≢◌, ◌↔◌, List, [], ◌∷◌, ◌++◌, length, sym, refl, ap, ◌∙◌, true≢false, add-one, arith, lit<, eqb-true, Ok, Err, is_ok}
+use borrow.Author.Tests.{eqb-false}
 use Rattle.chip.specs.Answer.{decided, passed, first_of}
 use Rattle.image.specs.declared.refusal.Refusal.{Refusal}
 use Rattle.image.specs.declared.refusal.Refusal.TheVariants.{Count, Length, Check, Fields}
@@ -93,14 +95,26 @@ none_by_number (c ∷ cs) = go c.1 (none_by_number cs)
     go false later = later
 
 -- ---- a table of numbers that is made of pieces
-proper_append : (rows more : List (ℕ × Bool)) → Proper rows → Proper more → Proper (rows ++ more)
+pub proper_append : (rows more : List (ℕ × Bool)) → Proper rows → Proper more → Proper (rows ++ more)
 proper_append [] more p q = q
 proper_append (row ∷ rows) more p q = (p.0, p.1, proper_append rows more p.2 q)
 
-proper_pieces : (n : ℕ) (f : ℕ → List (ℕ × Bool)) → ((m : ℕ) → Proper (f m)) → Proper (pieces n f)
+pub proper_pieces : (n : ℕ) (f : ℕ → List (ℕ × Bool)) → ((m : ℕ) → Proper (f m)) → Proper (pieces n f)
 unfolding pieces
 proper_pieces zero f h = tt
 proper_pieces (suc n) f h = proper_append (pieces n f) (f n) (proper_pieces n f h) (h n)
+
+pub none_of_both : (rows more : List (ℕ × Bool)) → Proper rows → (first_of (rows ++ more) ≡ 0) ↔ ((first_of rows ≡ 0) × (first_of more ≡ 0))
+none_of_both rows more p = (λ e. go (eqb (first_of rows) 0) refl e, λ h. first_past rows more p h.0 ∙ h.1)
+  where
+    go : (t : Bool) → eqb (first_of rows) 0 ≡ t → first_of (rows ++ more) ≡ 0 → (first_of rows ≡ 0) × (first_of more ≡ 0)
+    go true q e = let z = eqb-true (first_of rows) 0 q in (z, sym (first_past rows more p z) ∙ e)
+    go false q e = let n = eqb-false (first_of rows) 0 q in absurd (n (sym (first_stays rows more n) ∙ e))
+
+pub one_more : (f : ℕ → List (ℕ × Bool)) → ((m : ℕ) → Proper (f m)) → (m : ℕ) → first_of (pieces m f) ≡ 0 → first_of (f m) ≡ 0
+    → first_of (pieces (m + 1) f) ≡ 0
+unfolding pieces
+one_more f p m e h = rw add-one (first_past (pieces m f) (f m) (proper_pieces m f p) e ∙ h)
 
 pub none_of_pieces : (f : ℕ → List (ℕ × Bool)) → ((m : ℕ) → Proper (f m)) → (n : ℕ)
     → (first_of (pieces n f) ≡ 0) ↔ ((m : ℕ) → m < n → first_of (f m) ≡ 0)
