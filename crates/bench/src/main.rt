@@ -13,24 +13,25 @@ struct Bench {
 }
 
 impl Bench {
-    // The line is answered, and the next begins.
-    fn answer<W: Write>(&mut self, output: &mut W) -> io::Result<()> {
-        let turn = lines::turn::answer(self.line, self.system);
-        self.system = turn.system;
-        self.line = Text::new();
-        output.write_all(turn.text.held())
-    }
-
-    // Each byte of a part of the input: a line is answered when its line feed has come.
-    fn take<W: Write>(&mut self, output: &mut W, part: &[u8]) -> io::Result<()> {
+    // Each byte of a part of the input: a line is answered when its line feed has come. The system goes by value, and the text is
+    // taken out of the turn: with the system behind a `&mut` it is moved more often, and a line costs up to a fifth more.
+    fn take<W: Write>(self, output: &mut W, part: &[u8]) -> io::Result<Bench> {
+        let Bench {
+            mut system,
+            mut line,
+        } = self;
         for &byte in part {
             if byte == b'\n' {
-                self.answer(output)?;
+                let turn = lines::turn::answer(line, system);
+                let text = turn.text;
+                system = turn.system;
+                line = Text::new();
+                output.write_all(text.held())?;
             } else {
-                self.line = self.line.push(byte);
+                line = line.push(byte);
             }
         }
-        Ok(())
+        Ok(Bench { system, line })
     }
 }
 
@@ -50,8 +51,9 @@ fn main(rt: HostRuntime) {
             Ok(0) | Err(_) => break,
             Ok(n) => {
                 // Without a reader there is nothing left to do.
-                if bench.take(&mut output, &buffer[..n]).is_err() {
-                    return;
+                match bench.take(&mut output, &buffer[..n]) {
+                    Ok(next) => bench = next,
+                    Err(_) => return,
                 }
             }
         }
@@ -59,6 +61,7 @@ fn main(rt: HostRuntime) {
     }
     // The last line feed may lack.
     if !bench.line.is_empty() {
-        let _ = bench.answer(&mut output);
+        let turn = lines::turn::answer(bench.line, bench.system);
+        let _ = output.write_all(turn.text.held());
     }
 }
