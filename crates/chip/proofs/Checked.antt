@@ -10,10 +10,12 @@
 --     performed_number     the outcome tells the table's number
 --     performed_granted    where that is 0, the call is carried out
 --     performed_irq        and gives IRQ as it stands afterwards
+--     acknowledged         an acknowledge that passes its checks finds IRQ asserted
 --     refused_system       where it is not, the system is as it was
 --     refused_alike        and what the call would do makes no difference
 -- Assumes nothing.
 use Rattle.std.specs.Prelude.{Option, Some, None, ok_or, option_map}
+use Rattle.std.proofs.Common.{not, Ok, Err, is_ok, ap, sym, true≢false}
 use Prim.Native.Nat.{ℕ, ◌+◌, ◌*◌, ◌/◌, ◌%◌, ◌<◌, ◌^◌}
 use mathlib.Core.Path.{◌≡◌, refl}
 use mathlib.Core.Logic.{◌≢◌}
@@ -25,7 +27,7 @@ use Rattle.descriptors.specs.Descriptor.{protected, matches}
 use Rattle.registers.specs.Shared.{entry}
 use Rattle.chip.specs.System.{present, descriptor}
 use Rattle.chip.specs.Search.{matching, near_place, searched, irq, place}
-use Rattle.chip.specs.Answer.{number, values, refused, granted, checked, first_of, numbered}
+use Rattle.chip.specs.Answer.{number, values, refused, granted, checked, passed, miscounted, absent, first_of, numbered}
 use Rattle.chip.specs.Access.{writes, undefined, match_at, translate_at, translate}
 use Rattle.chip.specs.Register.{operate}
 use Rattle.chip.specs.Call.{checks, carried_out, performed}
@@ -156,3 +158,12 @@ refused_alike (c ∷ cs) s o p = go c.1 (refused_alike cs s o p)
         → cond b (refused c.0 s) (checked cs s o) ≡ cond b (refused c.0 s) (checked cs s p)
     go true later n = refl
     go false later n = later n
+
+pub acknowledged : (unit : ℕ) (s : System) → passed (checks (call.Acknowledge unit) s) ≡ Ok tt → irq s ≡ true
+acknowledged unit s = go (miscounted s.shared.board.count) (absent unit s.shared.board.count) (irq s)
+  where
+    go : (a b i : Bool) → passed ((refusal.Count, a) ∷ (refusal.Unit, b) ∷ (refusal.Interrupt, not i) ∷ []) ≡ Ok tt → i ≡ true
+    go true b i e = absurd (true≢false (sym (ap is_ok e)))
+    go false true i e = absurd (true≢false (sym (ap is_ok e)))
+    go false false false e = absurd (true≢false (sym (ap is_ok e)))
+    go false false true e = refl

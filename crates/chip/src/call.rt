@@ -72,7 +72,7 @@ impl System {
         }
     }
 
-    #[tactic(auto, unfolding(crate::specs::Call::performed))]
+    #[tactic(auto, using(crate::proofs::Checked::acknowledged), unfolding(crate::specs::Call::performed, crate::specs::Answer::granted))]
     pub fn perform(self, call: Call) -> Outcome
         ensures { result ≡ performed call self }
     {
@@ -104,11 +104,15 @@ impl System {
                 };
                 self.operate(operation, Register::at(address), m)
             }
-            // 4.6.2.1.
-            Call::Acknowledge { .. } => self.granted(Answer::Byte {
-                byte: self.shared.ivr,
-                near: None,
-            }),
+            // 4.6.2.1. That IRQ stands was checked.
+            Call::Acknowledge { .. } => Outcome {
+                answer: Answer::Byte {
+                    byte: self.shared.ivr,
+                    near: None,
+                },
+                irq: true,
+                system: self,
+            },
         }
     }
 }
