@@ -137,7 +137,7 @@ pass == 1 {
         above[crate, declared] = traits ~ /^:/ ? 1 + gsub(/ \+ /, "", traits) : 0
     }
     if (declared && /^ *fn /) { method = $2; sub(/[(<].*/, "", method) }
-    if (declared && /^ *ensures /) { sub(/^ */, " "); sub(/;$/, " "); promised[crate, declared, method] = promised[crate, declared, method] $0 }
+    if (declared && /^ *(requires|ensures) /) { sub(/^ */, " "); sub(/;$/, " "); promised[crate, declared, method] = promised[crate, declared, method] $0 }
     next
 }
 /^impl[ <]/ {

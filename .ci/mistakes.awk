@@ -13,7 +13,8 @@
 # module, and names bound in a term count, too, so more counts as moved than is.
 #
 # A function's proof is proofs/F/Proof.antt, or Invariants.antt and Answers.antt there, or is found by search, without a file. F of
-# a method of 'impl TRAIT<WITH> for TYPE' is TYPETRAITWITH/METHOD. Its contract is the trait's, and moves with it.
+# a method of 'impl TRAIT<WITH> for TYPE' is TYPETRAITWITH/METHOD. Its contract is the trait's, and moves with it, and what a 'ghost'
+# line of the 'impl' says.
 #
 # Printed, with tabs: 'mistake' LABEL NAME PLACE DECLARATION, 'moves' LABEL WHAT, and 'fault' LABEL WHY. WHAT is a function by the
 # folder of its proof, FILE#DECLARATION, or * for all there is.
@@ -47,6 +48,13 @@ function mention(user, line,   list, n, i, name) { # a law, a definition, or a f
     }
 }
 
+# what a function's contract names
+function promise(fn, line,   list, n, i) {
+    mention(fn, line)
+    n = words(line, list)
+    for (i = 1; i <= n; i++) cited[fn, list[i]] = 1
+}
+
 # what the body of a function, or the value of a constant, names
 function calls_of(user, line,   list, n, i) {
     gsub(/[^A-Za-z0-9_]+/, " ", line)
@@ -66,7 +74,7 @@ function open_item(name) {
 FNR == 1 {
     rel = relative(FILENAME)
     kind = rel ~ /^must-fail\// ? "edit" : rel ~ /\.rt$/ ? "code" : rel ~ /^proofs\/.*\/(Answers|Invariants|Proof)\.antt$/ ? "proof" : "antt"
-    type = ""; trait = ""; fn = ""; part = ""; constant = ""; item = ""; base = 0; sections = 0; data = 0
+    type = ""; trait = ""; gives = ""; fn = ""; part = ""; constant = ""; item = ""; base = 0; sections = 0; data = 0
     label = rel; sub(/^must-fail\//, "", label); sub(/\.edit$/, "", label)
     mistake = 0; file = ""; old = ""; attributes = ""
 }
@@ -91,7 +99,8 @@ kind != "edit" { text[rel, FNR] = $0; last[rel] = FNR }
 
 kind == "code" {
     line = $0; sub(/\/\/.*/, "", line); sub(/ +$/, "", line)
-    if (line ~ /^}/) type = trait = ""
+    if (line ~ /^}/) type = trait = gives = ""
+    if (trait && !fn && line ~ /^ *ghost /) gives = gives " " line
     if (line ~ /^(pub )?trait /) { type = $0; sub(/^(pub )?trait /, "", type); sub(/[^A-Za-z0-9_].*/, "", type); home[type] = path_of(rel) }
     if (line ~ /^impl[ <]/) {
         trait = line ~ / for / ? $2 : ""
@@ -111,6 +120,7 @@ kind == "code" {
         bare_of[fn] = bare; file_of[fn] = rel; functions[++function_count] = fn
         if (trait) impls[home[trait] trait "/" bare] = impls[home[trait] trait "/" bare] " " fn
         mention(fn, attributes); attributes = ""
+        promise(fn, gives)
         match(line, /^ */); indent = RLENGTH
         part = "contract"
     } else if (!fn && match(line, /^ *(pub(\([a-z]+\))? )?const [A-Z0-9_]+/)) {
@@ -129,11 +139,7 @@ kind == "code" {
     }
     if (fn) {
         owner[rel, FNR] = part; thing[rel, FNR] = fn
-        if (part == "contract" && line ~ /^ *(requires|ensures) /) {
-            mention(fn, line)
-            n = words(line, list)
-            for (i = 1; i <= n; i++) cited[fn, list[i]] = 1
-        }
+        if (part == "contract" && line ~ /^ *(requires|ensures) /) promise(fn, line)
         if (part == "body") calls_of(fn, line)
         line = $0; sub(/\/\/.*/, "", line); sub(/ +$/, "", line)
         match(line, /^ */)
