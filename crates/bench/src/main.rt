@@ -14,7 +14,7 @@ struct Bench {
 
 impl Bench {
     // Each byte of a part of the input: a line is answered when its line feed has come. The system goes by value, and the text is
-    // taken out of the turn: with the system behind a `&mut` it is moved more often, and a line costs up to a fifth more.
+    // taken out of the turn: with the system behind a `&mut` each line moves it more often.
     fn take<W: Write>(self, output: &mut W, part: &[u8]) -> io::Result<Bench> {
         let Bench {
             mut system,
